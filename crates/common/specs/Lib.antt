@@ -2,8 +2,6 @@
 pub mod Acts
 pub mod Hands
 pub mod Heavy
-pub mod Limits
 pub mod Outgoing
 pub mod Posts
-pub mod Splits
 pub mod Told

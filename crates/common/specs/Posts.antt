@@ -1,9 +1,9 @@
 -- What is said of a thread's seat: it is fresh, worn or at rest, or holds one slot.
 use Rattle.std.specs.Prelude.{◌≡◌, ◌≢◌, ℕ, ◌^◌, List, length, replicate}
 use Rattle.claims.specs.Seats.{SeatState, TableId, fresh_seat, posts_of, Holds, HoldsNot, HoldsNothing}
-use Rattle.common.specs.declared.faults.ServerFault.{ServerFault}
+use Rattle.sizes.specs.declared.faults.ServerFault.{ServerFault}
 use Rattle.common.specs.declared.shared.Own.{Own}
-use Rattle.common.specs.declared.faults.ServerFault.TheVariants as server_fault
+use Rattle.sizes.specs.declared.faults.ServerFault.TheVariants as server_fault
 
 -- seats of these claim words that have done nothing yet
 pub record AreFresh (table : TableId) (seats : List SeatState) : Type 0 where

@@ -1,15 +1,12 @@
 -- What a front shows, what the statistics count of a connection, what is logged of one that could not be opened, and
 -- what the errors of accept(2) mean to the relay.
-use Rattle.std.specs.Prelude.{◌≡◌, ℕ, Bool, List, codes}
+use Rattle.std.specs.Prelude.{◌≡◌, ℕ, Bool, List}
 use Rattle.std.specs.declared.io.ErrorKind.{ErrorKind, TheVariants.{Interrupted, ConnectionAborted, NetworkDown, NetworkUnreachable, HostUnreachable, WouldBlock}}
 use Rattle.relay_core.specs.Pairs.{PairState, verdict}
 use Rattle.statistics.specs.declared.event.Event.{Event, TheVariants.{Moved, Ended}}
-use Rattle.log.specs.declared.level.Level.{Level}
-use Rattle.common.specs.declared.{cause.Cause.{Cause}, clients.ClientsAt.{ClientsAt}}
+use Rattle.sizes.specs.declared.cause.Cause.{Cause}
 use Rattle.common.specs.declared.front.{Waiting.{Waiting, TheVariants.{No, Brief, Long}}, Unaccepted.{Unaccepted, TheVariants.{Again, Blocked, Starved}}, Unopened.{Unopened, TheVariants.{Connect, Register}}}
-use Rattle.common.specs.declared.cause.Cause.TheVariants as cause
-use Rattle.common.specs.declared.clients.ClientsAt.TheVariants as clients
-use Rattle.log.specs.declared.level.Level.TheVariants as level
+use Rattle.sizes.specs.declared.cause.Cause.TheVariants as cause
 
 -- what a front shows of its last wait for reports, and whether it listens
 pub record Seen : Type 0 where
@@ -47,18 +44,6 @@ ended_by p = Ended (verdict p) p.sent_up p.sent_down
 abbrev pub cause_of : Unopened → Cause
 cause_of Connect = cause.Connect
 cause_of Register = cause.Register
-
--- the word for a cause
-abbrev pub cause_name : Cause → List ℕ
-cause_name cause.Memory = codes "memory"
-cause_name cause.Connect = codes "connect"
-cause_name cause.Register = codes "register"
-cause_name cause.Address = codes "address"
-
--- the level of the messages that name a client
-abbrev pub client_level : ClientsAt → Level
-client_level clients.Debug = level.Debug
-client_level clients.Info = level.Info
 
 -- After a signal, a connection that was given up, or an error that the new socket had pending, the next connection may
 -- be accepted at once. EAGAIN says that none waits. Anything else counts as a lack of descriptors or memory

@@ -1,10 +1,9 @@
 ghost use Rattle.std.specs.{Prelude.{◌≡◌, ◌≢◌, ◌≤◌, ℕ, true, false, [], IfOk, IfErr, OnErr, vec_len, vec_capacity}, IoError.error_kind, declared.io.ErrorKind.TheVariants.Interrupted};
 ghost use Rattle.common.specs.Told.{millis_of, unaccepted_of, Waited};
 
-use crate::cause::Cause;
-use crate::limits::MAX_BATCH;
 use engine::Wire;
 use log::Log;
+use sizes::{Cause, MAX_BATCH};
 use std::io::{self, ErrorKind};
 use std::net::{SocketAddr, SocketAddrV4};
 use token::Token;

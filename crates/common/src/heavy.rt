@@ -1,8 +1,9 @@
 //! Which tickets a poller's thread leaves to the workers: those of connections that had much to do a moment ago.
 ghost use Rattle.std.specs.Prelude.{◌≡◌, ◌↔◌, IfOk, IsTrue, replicate, slice_index, slice_set};
-ghost use Rattle.common.specs.{Heavy.looked_at, Limits.heavy_marks};
+ghost use Rattle.common.specs.Heavy.{looked_at};
+ghost use Rattle.sizes.specs.Limits.{heavy_marks};
 
-use crate::limits::HEAVY_MARKS;
+use sizes::HEAVY_MARKS;
 use std::alloc::{AllocError, Global};
 use std::marker::Model;
 

@@ -7,8 +7,7 @@
 //! - [`Shared`] is what all threads share, and [`Own`] what one thread owns: its seat at the claim words, its ends of
 //!   the two queues, and a [`Hand`] for what it puts later ([`put_tickets`], [`give_slots`]). Each [`Own`] is made from
 //!   [`Parts`].
-//! - Each poller has a [`Part`] of the slots, which [`Split`] deals out, and [`HeavyMarks`], which say what tickets its
-//!   thread leaves to the workers.
+//! - Each poller has [`HeavyMarks`], which say what tickets its thread leaves to the workers.
 //! - [`Acts`] and [`Moves`] are the acts of a thread at a slot. The clauses of a turn and of an opening name the acts
 //!   that they make, in order. Only [`Moves`] reaches the [`Places`], where connections ([`Berth`]) wait between turns.
 //! - [`Gate`] is called around each turn's calls, by the act [`Gated::play`] alone. [`Clock`] shows the second, for the
@@ -24,27 +23,17 @@
 #![tactic(auto)]
 
 mod acts;
-mod cause;
-mod clients;
-mod faults;
 mod front;
 mod hand;
 mod heavy;
 mod lent;
-mod limits;
 mod places;
 mod shared;
-mod split;
 
 pub use acts::{Acts, Gated, Moves};
-pub use cause::Cause;
-pub use clients::ClientsAt;
-pub use faults::ServerFault;
 pub use front::{Front, Opened, Route, Settle, Unaccepted, Unopened, Waiting, unaccepted_of};
 pub use hand::{Hand, give_slots, put_tickets};
 pub use heavy::HeavyMarks;
 pub use lent::{Clock, Gate, Timing};
-pub use limits::{FIRST_LIGHT, LISTENER, MAX_ACCEPTS, MAX_BATCH, MAX_OWN_TURNS, OWN_BUDGET, WAKER};
 pub use places::{Berth, Occupied, Places};
 pub use shared::{Counting, Fullness, Own, Parts, Shared, ended_by, moved_by};
-pub use split::{Part, Split};

@@ -2,13 +2,13 @@ ghost use Rattle.std.specs.Prelude.{◌≡◌, ◌≤◌, IfOk, IfSome};
 ghost use Rattle.claims.specs.Seats.{fresh_seat};
 ghost use Rattle.common.specs.{Hands.empty_hand, Posts.AreFresh, Told.{ended_by, moved_by}};
 
-use crate::clients::ClientsAt;
 use crate::front::Front;
 use crate::hand::Hand;
 use crate::places::Places;
 use claims::{ClaimSeat, Claims};
 use ready::{FreeQueue, ReadyQueue};
 use relay_core::{MAX_READ, Pair};
+use sizes::ClientsAt;
 use statistics::{Event, Statistics};
 use std::alloc::{AllocError, Global};
 use std::sync::Arc;

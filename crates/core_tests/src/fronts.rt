@@ -1,10 +1,11 @@
 // What fronts and wires over sockets answer, on loopback.
 use crate::all_well;
-use common::{Front, MAX_BATCH, ServerFault, Settle, Split, Unopened, Waiting};
+use common::{Front, Settle, Unopened, Waiting};
 use engine::Wire;
 use log::sink::{Discard, Lines, Memory};
 use log::{Level, Log, Logged};
 use settings::parse;
+use sizes::{MAX_BATCH, ServerFault, Split};
 use sockets::{Forwarding, Patience, SocketWire, Sockets, Stop, bind, open_all};
 use std::alloc::{AllocError, Global};
 use std::io::{self, ErrorKind, Write};

@@ -1,9 +1,9 @@
 // A line that is too long, a fault's text, and a message of a level that is off.
 use crate::all_well;
-use common::{ClientsAt, ServerFault};
 use log::sink::Discard;
 use log::{Level, Logged};
 use relay_log::log_peer;
+use sizes::{ClientsAt, ServerFault};
 use std::alloc::{AllocError, Global};
 use std::cell::Cell;
 use std::fmt::{self, Write};

@@ -1,6 +1,7 @@
 -- What a relay needs to start: how many connections a process has descriptors for, and when a relay is its own target.
 use Rattle.std.specs.{Prelude.{◌≡◌, ◌⊎◌, ℕ, ◌+◌, ◌-◌, ◌*◌, ◌/◌, ◌^◌, ◌≤◌, Option, Some, None, Bool, true, List, [], ◌∷◌, slice_index, ℤ, pos, false}, Fs.{asks_read, asks_write, asks_append}, declared.fs.options.OpenOptions.OpenOptions}
-use Rattle.settings.specs.{Addresses.SocketAddress, Pollers.pollers_for}
+use Rattle.settings.specs.Addresses.{SocketAddress}
+use Rattle.sizes.specs.Pollers.{pollers_for}
 use Rattle.program.specs.declared.{extras.NumberOption.{NumberOption, TheVariants.{Stats, ConnectTimeout, Keepalive, RecordSize}}, standard_streams.StandardStream.{StandardStream, TheVariants.{Input, Output, Errors}}}
 
 -- how many more descriptors this many slots and workers need: two for each slot, and two for each poller

@@ -6,13 +6,13 @@ ghost use Rattle.std.specs.{Prelude.{◌≡◌, ◌≢◌, ◌⊎◌, IfErr, map
 ghost use Rattle.log.specs.Level.{filter_name};
 ghost use Rattle.settings.specs.Table.{level_name};
 
-use common::ServerFault;
 use log::kv::Source;
 use log::span::Spans;
 use log::{Level, LevelFilter, Log, Logged, Metadata, Record};
 use os::set_thread_name;
 use relay_log::log_no_thread;
 use settings::LogLevel;
+use sizes::ServerFault;
 use std::alloc::AllocGlobal;
 use std::cell::Cell;
 use std::env::{self, Env};

@@ -4,11 +4,11 @@ ghost use Rattle.std.specs.Prelude.{◌≡◌, ◌⊎◌, IfErr};
 
 use crate::logging::level_filter;
 use crate::streams::log_text;
-use common::ServerFault;
 use log::{Level, LevelFilter, Logged};
 use os::set_thread_name;
 use relay_log::log_no_thread;
 use settings::LogLevel;
+use sizes::ServerFault;
 use sockets::Stop;
 use std::alloc::AllocGlobal;
 use std::io::{self, Eprint, Stdin};

@@ -23,7 +23,7 @@ mod times;
 pub use account::{Account, Half, Waits};
 pub use beginning::LeftOut;
 pub use clock::{Clock, times_of};
-pub use common::OWN_BUDGET;
+pub use sizes::OWN_BUDGET;
 pub use order::put_in_order;
 pub use reading::{Rest, Sizes, Take, read, read_each};
 pub use reads::check_reads;

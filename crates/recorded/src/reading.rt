@@ -1,11 +1,11 @@
 //! A recording is read line by line, so that its text is never all in memory.
 use crate::beginning::{Beginning, LeftOut};
 use crate::recording::{Recording, split_of};
-use common::Split;
 use input::ReplayFault;
 use records::{
     Act, Header, MAX_RECORD, Made, Polling, Record, Wrong, is_header, read_header, read_line,
 };
+use sizes::Split;
 use std::alloc::{AllocError, Global};
 use std::io::Read;
 use token::Name;

@@ -4,10 +4,9 @@ ghost use Rattle.recorded.specs.Sequences.{records_at, records_of};
 
 use crate::order::is_of_wait;
 use crate::reading::{Rest, fault_of, wanted};
-use common::Split;
 use input::ReplayFault;
 use records::{Act, Header, Polling, Record};
-use settings::pollers_for;
+use sizes::{Split, pollers_for};
 use std::alloc::{AllocError, Global};
 
 /// A record, and its line in the file, from 1.

@@ -1,9 +1,9 @@
 //! What a poller does in a round, one act after the other: it waits for reports once, and then accepts connections,
 //! each of which it opens at once.
 use crate::recording::{Last, Recording, count_before};
-use common::MAX_ACCEPTS;
 use input::ReplayFault;
 use records::{Accepted, Act, Made, Opening, Polling, Record};
+use sizes::MAX_ACCEPTS;
 use std::alloc::AllocError;
 use std::mem;
 use token::{Name, Token};

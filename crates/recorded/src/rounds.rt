@@ -2,9 +2,9 @@
 use crate::clock::Clock;
 use crate::reading::fault;
 use crate::recording::{Last, Numbered, Recording, add, begun_before, lists};
-use common::MAX_BATCH;
 use input::ReplayFault;
 use records::{Act, Polling, Record};
+use sizes::MAX_BATCH;
 use token::Name;
 
 /// What a poller may have posted: by a report, or by the sweep of the round after a poll.

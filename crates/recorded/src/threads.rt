@@ -2,9 +2,9 @@
 //! else, or by a worker.
 use crate::order::first_overlap;
 use crate::recording::{Numbered, Recording, count_before, sort};
-use common::OWN_BUDGET;
 use input::ReplayFault;
 use records::{Act, Made, Record};
+use sizes::OWN_BUDGET;
 use std::alloc::AllocError;
 
 /// What one thread did at a slot without a break: a turn, with the closing that follows it, or another closing.

@@ -7,9 +7,10 @@ ghost use Rattle.records.specs.declared.act.Polling.TheVariants as polling;
 
 use crate::recorder::{Begun, Inner, Recorder, Sink};
 use crate::wire::RecordedWire;
-use common::{Front, MAX_BATCH, Opened, Unaccepted, Unopened, Waiting, unaccepted_of};
+use common::{Front, Opened, Unaccepted, Unopened, Waiting, unaccepted_of};
 use log::Log;
 use records::{Accepted, Act, Opening, Polling};
+use sizes::MAX_BATCH;
 use std::alloc::{AllocError, Global};
 use std::io::{self, ErrorKind};
 use std::net::SocketAddr;

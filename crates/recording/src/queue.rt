@@ -2,11 +2,11 @@
 ghost use Rattle.std.specs.Prelude.{◌≡◌, IfOk, replicate};
 
 use crate::recorder::Sink;
-use common::Split;
 use crossbeam_queue::ArrayQueue;
 use crossbeam_utils::CachePadded;
 use log::{Log, warn};
 use records::{Act, Record};
+use sizes::Split;
 use std::alloc::{AllocError, Global};
 use std::sync::Wait;
 use std::sync::atomic::AtomicU64;

@@ -3,7 +3,7 @@ use Rattle.std.specs.{Prelude.{ℕ, Bool, true, false, List, [], ◌++◌, codes
 use Rattle.log.specs.declared.level.Level.{Level}
 use Rattle.token.specs.{Sides.side_name, Kinds.kind_name}
 use Rattle.relay_core.specs.{Calls.call_name, Pairs.PairState, declared.verdict.{Fault.{Fault, TheVariants.{Broken, Idle}}, Verdict.{Verdict, TheVariants.{Live, Done, Failed}}}}
-use Rattle.common.specs.{declared.cause.Cause.{Cause}, Told.cause_name}
+use Rattle.sizes.specs.{declared.cause.Cause.{Cause}, Causes.cause_name}
 use Rattle.log.specs.declared.level.Level.TheVariants as level
 
 abbrev pub open_message : ℕ → ℕ → List ℕ

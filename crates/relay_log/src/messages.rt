@@ -1,14 +1,14 @@
 // A log prints a message itself, so no call here takes memory.
 ghost use Rattle.std.specs.Prelude.{Some, option_map, ◌≡◌};
 ghost use Rattle.relay_core.specs.Pairs.{verdict};
-ghost use Rattle.common.specs.Told.{client_level};
+ghost use Rattle.sizes.specs.Causes.{client_level};
 ghost use Rattle.relay_log.specs.Messages.{done_message, drop_message, drops_message, fail_message, full_message, gone_text, open_message, peer_text, EndLogged};
 ghost use Rattle.log.specs.declared.level.Level.TheVariants as level;
 
 use crate::Gone;
-use common::{Cause, ClientsAt, ServerFault};
 use log::{Level, Log, log_enabled};
 use relay_core::{Fault, Pair, Verdict};
+use sizes::{Cause, ClientsAt, ServerFault};
 use std::fmt::{self, Display};
 use std::io;
 

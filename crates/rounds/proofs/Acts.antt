@@ -4,7 +4,8 @@ use Rattle.claims.{specs.{declared.view.Account.Account, Views.{after_all, minte
 use Rattle.ready.specs.declared.ticket.Ticket.{Ticket}
 use Rattle.rounds.specs.{Acts.{SeatAct, exchanges_at, made_by, due_of, ActsMade, IsPost, ArePosts, opening, InOrder, IsTry, AreTries, at_slot, reported, all_reported, ArePosted, is_due, last_in, opened_below, all_opened, sweep_of}, Pollers.{IsOwnTable, PollerState, AreGenerations}, Openings.AreIn}
 use Rattle.relay_core.specs.Idle.{is_past}
-use Rattle.common.specs.{Hands.{HandState, ticket_room}, declared.split.Part.Part, Splits.IsIn, Posts.IsWorn}
+use Rattle.common.specs.{Hands.{HandState, ticket_room}, Posts.IsWorn}
+use Rattle.sizes.specs.{declared.split.Part.Part, Splits.IsIn}
 use mathlib.Core.Logic.{dite}
 use native.Mathlib.Decide.{ℕ_discrete}
 use Rattle.claims.specs.declared.view.Exchange.TheVariants as exchange

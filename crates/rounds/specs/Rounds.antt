@@ -2,12 +2,13 @@
 -- what its thread owns.
 use Rattle.std.specs.Prelude.{◌≡◌, ◌≢◌, ◌⊎◌, ◌↔◌, ℕ, ◌+◌, ◌<◌, ◌≤◌, true, false, List, [], ◌++◌, length, Contains, Result, Err}
 use Rattle.ready.specs.{declared.ticket.Ticket.Ticket, Steps.HeldOnce}
-use Rattle.common.specs.{declared.{front.{Route.Route, Unaccepted.Unaccepted, Waiting.Waiting}, places.Berth.Berth, shared.Own.Own, split.Part.Part}, Acts.Made, Hands.{HasRoom, ticket_room}, Outgoing.tickets_out, Posts.{IsWorn, OnlyWorn}}
+use Rattle.common.specs.{declared.{front.{Route.Route, Unaccepted.Unaccepted, Waiting.Waiting}, places.Berth.Berth, shared.Own.Own}, Acts.Made, Hands.{HasRoom, ticket_room}, Outgoing.tickets_out, Posts.{IsWorn, OnlyWorn}}
+use Rattle.sizes.specs.declared.split.Part.{Part}
 use Rattle.rounds.specs.{Acts.{SeatAct, due_of, ActsMade, ArePosts, AreTries, InOrder, PostsMade, all_reported, ArePosted, is_due, sweep_of, swept_after}, Openings.{AreIn, AreLost, AreOpened, OnlyTook, SameQueues, SlotsCounted, TriesMade, TriesNext, unmarked}, Pollers.{PollerState, HasOpenedAll, Counted, spare_room}, Episodes.AreLogged}
-use Rattle.common.specs.declared.faults.ServerFault.{ServerFault}
+use Rattle.sizes.specs.declared.faults.ServerFault.{ServerFault}
 use Rattle.common.specs.declared.front.Unaccepted.TheVariants as unaccepted
 use Rattle.common.specs.declared.front.Waiting.TheVariants as waiting
-use Rattle.common.specs.declared.faults.ServerFault.TheVariants as server_fault
+use Rattle.sizes.specs.declared.faults.ServerFault.TheVariants as server_fault
 
 -- The reports of the batch were delivered: each that is for a connection was posted at its slot. Then came the posts of
 -- a sweep, if one was made, and then connections were opened. Of the posts the last ones are missing only if the seat is

@@ -5,8 +5,9 @@ ghost use Rattle.common.specs.{Hands.ticket_room, Posts.{IsWorn, OnlyWorn}};
 ghost use Rattle.rounds.specs.Acts.{all_reported, reported, ArePosted, Delivered, PostsMade};
 
 use claims::{ClaimSeat, Claims, Posted};
-use common::{Acts, Hand, LISTENER, ServerFault};
+use common::{Acts, Hand};
 use ready::Ticket;
+use sizes::{LISTENER, ServerFault};
 use token::{Name, unpack};
 
 /// Posts a note for each report of a batch, and adds a ticket to the hand for each post that answers Wake. Returns

@@ -4,8 +4,8 @@ ghost use Rattle.rounds.specs.Episodes.{dropped_for, line_of};
 ghost use Rattle.log.specs.declared.level.Level.TheVariants as level;
 
 use crate::episodes::Drops;
-use common::Cause;
 use relay_log::{Logs, log_drop, log_drops};
+use sizes::Cause;
 use std::marker::Model;
 
 /// A line that must be logged. This value cannot be dropped, and only [`Owed::log`] takes it.
@@ -45,7 +45,7 @@ pub(crate) struct Dropped {
 }
 
 impl Model for Dropped {
-    ghost use Rattle.common.specs.declared.cause.Cause.{Cause};
+    ghost use Rattle.sizes.specs.declared.cause.Cause.{Cause};
 
     ghost Value = { Cause };
 

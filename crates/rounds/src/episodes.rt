@@ -4,8 +4,8 @@ ghost use Rattle.rounds.specs.Episodes.{all_logged_at, dropped_at, dropped_for, 
 ghost use Rattle.log.specs.declared.level.Level.TheVariants as level;
 
 use crate::dropping::Owed;
-use common::Cause;
 use relay_log::Logs;
+use sizes::Cause;
 
 /// Conditions of a poller that were logged when they began, and still last.
 #[derive(Drop)]

@@ -12,13 +12,12 @@ ghost use Rattle.token.specs.declared.side.Side.TheVariants as side;
 use crate::dropping::Dropped;
 use crate::poller::{Poller, Uncounted};
 use claims::{Adopted, Released};
-use common::{
-    Acts, Berth, Cause, ClientsAt, Counting, Front, Hand, Moves, Opened, Own, Route, Settle, Shared,
-};
+use common::{Acts, Berth, Counting, Front, Hand, Moves, Opened, Own, Route, Settle, Shared};
 use log::Log;
 use ready::Ticket;
 use relay_core::{Pair, proxy_line};
 use relay_log::{Gone, Known, Logs, Why, log_gone, log_open, log_peer, logs_gone};
+use sizes::{Cause, ClientsAt};
 use std::alloc::{AllocError, Global};
 use std::net::SocketAddr;
 use std::sync::Wait;

@@ -2,7 +2,8 @@
 use Rattle.std.specs.Prelude.{◌≡◌, ℕ, ◌+◌, List, [], ◌∷◌, replicate}
 use Rattle.claims.specs.Seats.{TableId, fresh_seat}
 use Rattle.ready.specs.Steps.{EndState, opened, unused}
-use Rattle.common.specs.{declared.{shared.Parts.Parts, split.Split.Split}, Splits.{each_part, part_of, parts_of}, Told.Seen}
+use Rattle.common.specs.{declared.shared.Parts.Parts, Told.Seen}
+use Rattle.sizes.specs.{declared.split.Split.Split, Splits.{each_part, part_of, parts_of}}
 use Rattle.rounds.specs.{Openings.fresh_poller, Pollers.PollerState}
 use Rattle.server.specs.Limits.{share_of}
 use Rattle.settings.specs.declared.fields.Settings.{Settings}

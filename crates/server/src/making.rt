@@ -3,14 +3,16 @@ ghost use Rattle.std.specs.Prelude.{◌≡◌, ◌↔◌, ◌+◌, ◌-◌, ◌<
 ghost use Rattle.claims.specs.Seats.{fresh_seat};
 ghost use Rattle.ready.specs.Steps.{unused, opened as filled};
 ghost use Rattle.server.specs.{Limits.{SharesLight, share_of}, Begins.{all_begun, begun, ThreadsBegin}};
-ghost use Rattle.common.specs.Splits.{each_part, parts_of};
-ghost use Rattle.settings.specs.{Calls.calls_for, Pollers.pollers_for};
+ghost use Rattle.sizes.specs.Splits.{each_part, parts_of};
+ghost use Rattle.settings.specs.Calls.{calls_for};
+ghost use Rattle.sizes.specs.Pollers.{pollers_for};
 
 use claims::Claims;
-use common::{ClientsAt, Front, Fullness, Parts, Places, ServerFault, Shared, Split};
+use common::{Front, Fullness, Parts, Places, Shared};
 use ready::{FreeQueue, ReadyQueue};
 use rounds::{Opening, Poller};
-use settings::{Settings, calls_for, pollers_for};
+use settings::{Settings, calls_for};
+use sizes::{ClientsAt, ServerFault, Split, pollers_for};
 use std::alloc::{AllocError, Global};
 use std::sync::Wait;
 use threads::Server;

@@ -1,9 +1,9 @@
 //! A server over the system's sockets, from its settings to its end, which may record what its threads do.
 ghost use Rattle.std.specs.Prelude.{◌≡◌, length};
-ghost use Rattle.settings.specs.Pollers.{pollers_for};
+ghost use Rattle.sizes.specs.Pollers.{pollers_for};
 
 use crate::making::{build, split_of};
-use common::{ClientsAt, Clock, Front, Gate, ServerFault, Split, Timing};
+use common::{Clock, Front, Gate, Timing};
 use log::Log;
 use os::set_thread_name;
 use recording::{
@@ -12,6 +12,7 @@ use recording::{
 use records::{Header, Parts};
 use relay_log::log_no_thread;
 use settings::{Settings, calls_for};
+use sizes::{ClientsAt, ServerFault, Split};
 use sockets::{Bound, Dial, Forwarding, Patience, Stop, open_all};
 use statistics::Statistics;
 use std::alloc::{AllocError, Global};

@@ -1,3 +1,2 @@
 pub mod Unknown
 pub mod Unique
-pub mod FewPollers

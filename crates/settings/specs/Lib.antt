@@ -3,5 +3,4 @@ pub mod Addresses
 pub mod Table
 pub mod Document
 pub mod Faults
-pub mod Pollers
 pub mod Calls

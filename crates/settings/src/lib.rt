@@ -3,8 +3,7 @@
 //! `parse` reads a text. `Settings` has one field for each key and prints as `KEY=VALUE` lines, and `SettingsFault`
 //! prints as the line that a person sees. The table of the keys, with kinds, ranges and defaults, is in
 //! `src/table.rt`, and for the promises in `specs/Table.antt`. `cause` and `argument_cause` help a person to find a
-//! fault in a file or in a command line. `pollers_for` says how many threads poll, which no key sets, and `calls_for`
-//! how many calls a turn makes at most.
+//! fault in a file or in a command line. `calls_for` says how many calls a turn makes at most.
 #![tactic(auto)]
 
 mod addresses;
@@ -29,5 +28,5 @@ pub use hints::{TypedWord, Unit};
 pub use levels::LogLevel;
 pub use one_line::{EndOfLine, OneLine, ShownCharacter};
 pub use read::parse;
-pub use table::{Key, ROWS, Row, pollers_for};
+pub use table::{Key, ROWS, Row};
 pub use wanted::has_leading_zero;

@@ -3,6 +3,3 @@ pub(crate) const MAX_SHOWN: usize = 64;
 
 /// The most times that a text is parsed to find the line of a key.
 pub(crate) const MAX_LOOKS: usize = 64;
-
-/// On average a poller has at least this many slots, unless the relay has fewer.
-pub(crate) const LEAST_SLOTS: usize = 64;

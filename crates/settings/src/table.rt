@@ -1,22 +1,8 @@
 //! The table of the keys: a row has all that is fixed about a key.
-ghost use Rattle.std.specs.Prelude.{◌≡◌, ◌*◌, ◌≤◌, ◌≢◌, ◌↔◌, IsTrue, Some, IfSome, IfNone, option_map};
-ghost use Rattle.settings.specs.{Table.{key_name, row_of, a_truth, Tells}, Pollers.pollers_for, Document.setting_text};
+ghost use Rattle.std.specs.Prelude.{◌≡◌, ◌≢◌, ◌↔◌, IsTrue, Some, IfSome, IfNone, option_map};
+ghost use Rattle.settings.specs.{Table.{key_name, row_of, a_truth, Tells}, Document.setting_text};
 
-use crate::limits::LEAST_SLOTS;
 use std::fmt;
-
-/// How many threads poll in a relay with this many slots and workers: as many as there are workers, but at most one
-/// for each 64 slots, and at least one.
-#[tactic(auto, using(crate::proofs::FewPollers::are_few))]
-pub fn pollers_for(slots: usize, workers: usize) -> usize
-    requires slots { 1 ≤ slots }
-    requires workers { (1 ≤ workers) × (workers ≤ 16) }
-    ensures pollers { result ≡ pollers_for slots workers }
-    ensures range { (1 ≤ result) × (result ≤ workers) }
-    ensures few { result * result ≤ slots }
-{
-    (slots / LEAST_SLOTS).min(workers).max(1)
-}
 
 /// A key of a settings text, in the order in which keys are read and printed. [`Settings`](crate::Settings) says what
 /// each is for.

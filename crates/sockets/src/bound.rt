@@ -2,10 +2,10 @@
 ghost use Rattle.std.specs.{Prelude.{◌≡◌, ◌↔◌, ◌<◌, IfOk, IfErr, IsTrue}, IoError.error_kind, Net.Socket.socket_port, declared.io.ErrorKind.TheVariants.PermissionDenied};
 ghost use Rattle.sockets.specs.Fronts.{IsAt};
 
-use common::ServerFault;
 use log::{Log, error};
 use mio::net::TcpListener;
 use settings::Settings;
+use sizes::ServerFault;
 use std::io;
 use std::marker::Model;
 use std::net::{Net, SocketAddr};

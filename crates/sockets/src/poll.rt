@@ -3,7 +3,8 @@ ghost use Rattle.std.specs.{Prelude.{◌≡◌, ◌≢◌, ◌↔◌, ◌⊎◌,
 ghost use Rattle.mio.specs.{Event.event_token, Events.items};
 ghost use Rattle.token.specs.Numbers.{name_of};
 ghost use Rattle.sockets.specs.{Fronts.{end_in, fresh_front, heard_of, longest_of, most_lacking, most_left, names_reading, numbers, v4_of, LacksDescriptors, LacksMemory, IsLocal, IsRoute, MayTell, OnlyLacked, WaitEnded}, Wires.{SameButWatched, fresh_wire, patient, under, unlimited}};
-ghost use Rattle.common.specs.{Splits.parts_of, Told.{unaccepted_of, Waited}, declared.front.{Unaccepted.TheVariants.Starved, Unopened.TheVariants.{Connect, Register}}};
+ghost use Rattle.common.specs.{Told.{unaccepted_of, Waited}, declared.front.{Unaccepted.TheVariants.Starved, Unopened.TheVariants.{Connect, Register}}};
+ghost use Rattle.sizes.specs.Splits.{parts_of};
 
 use crate::bound::Bound;
 use crate::failure::{log_failure, log_unconnected};
@@ -17,9 +18,7 @@ use crate::stop::{IsSet, Stop};
 use crate::stream::Stream;
 use crate::waiting::Waiter;
 use crate::wire::SocketWire;
-use common::{
-    Front, LISTENER, MAX_BATCH, Opened, Route, ServerFault, Settle, Split, Unopened, WAKER, Waiting,
-};
+use common::{Front, Opened, Route, Settle, Unopened, Waiting};
 use libc::{EMFILE, ENOMEM, ENOSPC};
 use log::{Level, Log};
 use mio::event::Event;
@@ -27,6 +26,7 @@ use mio::net::TcpListener;
 use mio::unix::SourceFd;
 use mio::{Events, Interest, Poll, Registry, Waker};
 use readiness::{Heard, Reports, Told};
+use sizes::{LISTENER, MAX_BATCH, ServerFault, Split, WAKER};
 use std::alloc::{AllocError, Global};
 use std::io;
 use std::marker::Model;

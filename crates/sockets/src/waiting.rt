@@ -4,8 +4,9 @@ ghost use Rattle.mio.specs.Events.{items, capacity as events_capacity};
 ghost use Rattle.common.specs.Told.{millis_of};
 ghost use Rattle.sockets.specs.Fronts.{Fails};
 
-use common::{MAX_BATCH, Waiting};
+use common::Waiting;
 use mio::{Events, Poll, Registry};
+use sizes::MAX_BATCH;
 use std::alloc::{AllocError, Global};
 use std::io;
 use std::time::Duration;

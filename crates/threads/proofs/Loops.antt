@@ -2,7 +2,7 @@
 use Rattle.std.{proofs.{Common.{◌≡◌, ◌≢◌, ℕ, zero, suc, ◌+◌, ◌-◌, ◌<◌, ◌≤◌, Bool, true, false, cond, List, [], ◌∷◌, ◌++◌, drop, length, length-append, length-set, sym, ◌∙◌, refl, ap, arith, inl, inr, append_assoc}, lemmas.{List.{get_or-set_same, map-append, append-nil, set-set, Concat.flat_map-append, Elements.{All-append, All-head, All-map, All-tail, All-weaker}, Sums.{sum_by-append, sum_by-set}}, Option.{none-some, same_Some, get_or_from_slice_get, slice_get-get_or, slice_get_read, slice_get_within}, Bool.{ltb-true, ltb-false, cases_lt}}, Math.Seq.map-set_same}, specs.{List.{All, slice_set}, Prelude.{◌==◌, ◌&&◌, Option, Some, None, Result, Ok, Err, IsOk, OnOk, IfErr, slice_get, map, nat_lt, if◌then◌else◌, ◌⊎◌}}}
 use Rattle.claims.specs.{declared.view.Exchange.Exchange, Views.minted_by, Seats.SeatState}
 use Rattle.ready.specs.{declared.ticket.Ticket.Ticket, Steps.EndState}
-use Rattle.common.specs.declared.faults.ServerFault.{ServerFault, TheVariants.Poll}
+use Rattle.sizes.specs.declared.faults.ServerFault.{ServerFault, TheVariants.Poll}
 use Rattle.common.{proofs.Outgoing.took_both, specs.{declared.{front.Unaccepted.Unaccepted, shared.Own.Own}, Acts.Made, Hands.HandState, Outgoing.{Inserted, outgoing, tickets_out, slots_out, without_first}, Heavy.looked_at}}
 use Rattle.turns.specs.{declared.worker.Worked.Worked, Shares.{AreShared, OneShared, TicketsShared}, Turns.{TicketsKept, SlotsKept, TurnMade, WorkerTurn, OldestRan, OwnTurn, Handled, Playing, program}}
 use Rattle.threads.{proofs.Divided.End, specs.{Divided.ends_of, declared.{ending.{Ended.Ended, Why.{Why, TheVariants.FaultFound}}, working.Owned.Owned}, Loops.{faults_by, times_of, freed, Run, tickets_of, act_of, acts_of, due_from, fault_in, faults_of, IsRun, TurnsMade, takes_of, times_by, times_given, SlotsGiven, Changes, OthersKept, OneRan, tickets_in, Took, WorkerMayEnd, WorkerEnded, WorkerRan, OwnTurnsRan, OwnRan, SharedAndRan, TurnsCut, NoTicketTaken, Asked, Ends, EndsWell, RoundMade, RoundOver, TurnsAfter, StepCut, StepsMade, IsPollerAct, PollerRan, opened_by, openings_of}}}

@@ -3,8 +3,9 @@ use Rattle.std.specs.{Prelude.{◌≡◌, ◌≢◌, ◌⊎◌, ℕ, zero, suc, 
 use Rattle.token.specs.Names.{last_generation}
 use Rattle.claims.specs.{declared.view.Exchange.{Exchange, TheVariants.Adopted}, Seats.SeatState}
 use Rattle.ready.specs.{declared.ticket.Ticket.Ticket, Steps.{EndState, HeldOnce, TookOne}}
-use Rattle.common.specs.declared.faults.ServerFault.{ServerFault}
-use Rattle.common.specs.{declared.{front.Unaccepted.Unaccepted, shared.Own.Own, split.Split.Split}, Limits.own_turns, Outgoing.{TookNothing, tickets_out, slots_out}, Splits.{IsIn, part_of, parts_of}, Posts.OnlyWorn}
+use Rattle.sizes.specs.declared.faults.ServerFault.{ServerFault}
+use Rattle.common.specs.{declared.{front.Unaccepted.Unaccepted, shared.Own.Own}, Outgoing.{TookNothing, tickets_out, slots_out}, Posts.OnlyWorn}
+use Rattle.sizes.specs.{declared.split.Split.Split, Limits.own_turns, Splits.{IsIn, part_of, parts_of}}
 use Rattle.turns.specs.{declared.worker.Worked.Worked, Shares.TicketsShared, Turns.{IsTurnOf, NoOwnTurn}}
 use Rattle.rounds.specs.{Acts.{SeatAct, ActsMade, IsPost, IsTry, at_slot, due_of}, Pollers.{PollerState, HasOpenedAll}, Openings.{slots_in, times}, Rounds.{EndedEarly, NotBegun as NoRound, ListenerKept, RoundDone, RoundEnded, RoundRefused}}
 use Rattle.threads.specs.{declared.{ending.Why.{Why, TheVariants.{FaultFound, PollerOver, QueueClosed, Met}}, working.Owned.Owned}, Divided.ends_of}

@@ -4,8 +4,9 @@ ghost use Rattle.threads.specs.Loops.{AllWoken, EndsAll, IsTold};
 
 use crate::ending::{Ended, Ending, Why};
 use crate::faults::Recorded;
-use common::{Front, Shared, Split, Timing};
+use common::{Front, Shared, Timing};
 use ready::{Closed, ReadyQueue};
+use sizes::Split;
 use std::alloc::Global;
 use std::sync::Wait;
 use std::sync::atomic::AtomicBool;

@@ -2,14 +2,15 @@
 ghost use Rattle.std.specs.Prelude.{◌≡◌, ◌↔◌, IfOk, IfErr, IfSome, IsSome, IsTrue, OnErr, OnOk, None, Some, option_map, true, false};
 ghost use Rattle.common.specs.Outgoing.{PutAll};
 ghost use Rattle.ready.specs.Steps.{HeldOnce};
-ghost use Rattle.common.specs.declared.faults.ServerFault.{ServerFault};
+ghost use Rattle.sizes.specs.declared.faults.ServerFault.{ServerFault};
 ghost use Rattle.threads.specs.Loops.{EndsAll, Took, announced, fault_by};
 
 use crate::faults::{Found, Lowest, Outcome, Recorded};
 use crate::running::Served;
-use common::{Front, Own, ServerFault};
+use common::{Front, Own};
 use ready::Ticket;
 use rounds::Poller;
+use sizes::ServerFault;
 use std::marker::Model;
 use std::sync::atomic::AtomicUsize;
 use std::sync::atomic::Ordering::SeqCst;

@@ -3,7 +3,7 @@ ghost use Rattle.std.specs.{Prelude.{◌≡◌, ◌↔◌, IfErr, IsOk, None, So
 ghost use Rattle.threads.specs.Loops.{announced, lowest};
 
 use crate::running::Served;
-use common::ServerFault;
+use sizes::ServerFault;
 use std::marker::Model;
 use std::snapshot::Snapshot;
 use std::sync::{OnceLock, OnceToken, Wait};

@@ -8,9 +8,10 @@ ghost use Rattle.threads.specs.{Loops.{AllWoken, Asked, EndsWell, IsTold, LoopMa
 
 use crate::context::{Context, StopFlag, Told};
 use crate::ending::{Ended, NoFault, end_if_over};
-use common::{Clock, Front, Gate, MAX_OWN_TURNS, Own, ServerFault, Shared};
+use common::{Clock, Front, Gate, Own, Shared};
 use log::Log;
 use rounds::{Poller, poller_round};
+use sizes::{MAX_OWN_TURNS, ServerFault};
 use std::sync::{Arc, Wait};
 use turns::{Worked, own_turn, share_tickets};
 

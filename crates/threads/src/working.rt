@@ -6,9 +6,10 @@ ghost use Rattle.threads.specs.{Divided.ends_of, Loops.{Changes, GivesToOwner, I
 
 use crate::context::{Context, Told};
 use crate::ending::{Cleared, Ended, take};
-use common::{Clock, Front, Gate, Hand, Own, ServerFault, Shared, give_slots, put_tickets};
+use common::{Clock, Front, Gate, Hand, Own, Shared, give_slots, put_tickets};
 use log::Log;
 use ready::FreeQueue;
+use sizes::ServerFault;
 use std::sync::{Arc, Wait};
 use std::{mem, thread};
 use turns::{Worked, worker_turn};

@@ -6,7 +6,7 @@ use Rattle.claims.{specs.{declared.{view.{Account.Account, Exchange.{Exchange, T
 use Rattle.common.{proofs.Holding.holds_from, specs.{declared.{places.Berth.Berth, shared.Own.Own}, Posts.{AtRest, HoldsOnly, IsWorn, OnlyWorn}, Hands.{HandState, HasRoom}, Acts.{AreMade, Made, giving}, Heavy.looked_at}}
 use Rattle.ready.specs.{declared.ticket.Ticket.Ticket, Steps.EndState}
 use Rattle.engine.specs.Turns.{outcome_of}
-use Rattle.common.specs.declared.faults.ServerFault.{ServerFault, TheVariants.Worn}
+use Rattle.sizes.specs.declared.faults.ServerFault.{ServerFault, TheVariants.Worn}
 use Rattle.turns.specs.{declared.worker.Worked.Worked, Turns.{noted_by, ActsLeft, Handled, Handles, IsLeft, StaysAs, Playing, RunRest, WasHeld, TurnInOrder, program, AtWork, TicketsKept, SlotGiven, SlotsKept, TurnDone, TurnRest, TurnMade}, Shares.{AreShared, IsLight, OneShared, Passed, Stays}}
 use Rattle.claims.specs.declared.answers.Posted.TheVariants as posted
 use Rattle.engine.specs.declared.outcome.Turn.TheVariants as turn

@@ -1,7 +1,8 @@
 -- Which tickets a poller's thread keeps for turns of its own, and which it puts for the workers.
 use Rattle.std.specs.Prelude.{◌≡◌, ◌⊎◌, ℕ, suc, ◌<◌, List, [], ◌∷◌, ◌++◌, slice_index}
 use Rattle.ready.specs.{declared.ticket.Ticket.Ticket, Steps.{EndState, PutOne, HeldOnce}}
-use Rattle.common.specs.{Heavy.looked_at, Limits.first_light, declared.shared.Own.Own}
+use Rattle.common.specs.{Heavy.looked_at, declared.shared.Own.Own}
+use Rattle.sizes.specs.Limits.{first_light}
 
 -- the ticket was put
 pub record Puts (ticket : Ticket) (old new : EndState Ticket) : Type 0 where

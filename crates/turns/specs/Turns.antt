@@ -5,8 +5,9 @@ use Rattle.ready.specs.declared.ticket.Ticket.{Ticket}
 use Rattle.relay_core.specs.{Pairs.{PairState, noted}, Replies.AnswerValue, declared.Side.Side}
 use Rattle.engine.specs.Turns.{IsTurn, outcome_of}
 use Rattle.turns.specs.declared.worker.Worked.{Worked}
-use Rattle.common.specs.declared.faults.ServerFault.{ServerFault}
-use Rattle.common.specs.{declared.{places.Berth.Berth, shared.Own.Own}, Acts.{Act, Made, TakeOut, Play, Settle, PutIn, Close, AreMade, busy_turn, gone_turn, quiet_turn, again_turn, ended_turn, leaving}, Hands.HasRoom, Limits.heavy_marks, Posts.{HoldsOnly, OnlyWorn}, Outgoing.{Inserted, KeepsTicket, KeepsSlot, PutAll, TookNothing, tickets_out, slots_out, without_first}}
+use Rattle.sizes.specs.declared.faults.ServerFault.{ServerFault}
+use Rattle.common.specs.{declared.{places.Berth.Berth, shared.Own.Own}, Acts.{Act, Made, TakeOut, Play, Settle, PutIn, Close, AreMade, busy_turn, gone_turn, quiet_turn, again_turn, ended_turn, leaving}, Hands.HasRoom, Posts.{HoldsOnly, OnlyWorn}, Outgoing.{Inserted, KeepsTicket, KeepsSlot, PutAll, TookNothing, tickets_out, slots_out, without_first}}
+use Rattle.sizes.specs.Limits.{heavy_marks}
 use Rattle.token.specs.Names.{last_generation}
 use Rattle.engine.specs.declared.outcome.Turn.TheVariants as turn
 use Rattle.turns.specs.declared.worker.Worked.TheVariants as worked

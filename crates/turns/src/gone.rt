@@ -1,9 +1,10 @@
 //! What the log has of a connection that has ended.
 
-use common::{Berth, ClientsAt, Front, Settle};
+use common::{Berth, Front, Settle};
 use log::Log;
 use relay_core::{Fault, Verdict};
 use relay_log::{Gone, Known, Why, logs_gone};
+use sizes::ClientsAt;
 use token::Side;
 
 /// Logs a connection that has ended by this second: whose it was, how far it got, and why. One that is done is logged

@@ -2,17 +2,16 @@
 ghost use Rattle.std.specs.Prelude.{◌≡◌, ◌↔◌, ◌<◌, ◌∷◌, ◌++◌, [], length, min, slice_get, Ok, Some, None, IfErr, IfSome, IsSome, false, true};
 ghost use Rattle.claims.specs.Seats.{HoldsNothing};
 ghost use Rattle.engine.specs.Turns.{IsServed};
-ghost use Rattle.common.specs.{Heavy.looked_at, Limits.{first_light, own_budget}, Posts.{AtRest, OnlyWorn}};
+ghost use Rattle.common.specs.{Heavy.looked_at, Posts.{AtRest, OnlyWorn}};
+ghost use Rattle.sizes.specs.Limits.{first_light, own_budget};
 ghost use Rattle.turns.specs.{Shares.{IsLight, Stays, TicketsShared}, Turns.{marks_after, Handling, NoOwnTurn, OwnTurn, PlaysAt}};
 
 use crate::giving::put_ticket;
 use crate::worker::{Worked, turn_of};
-use common::{
-    Clock, FIRST_LIGHT, Front, Gated, Hand, HeavyMarks, OWN_BUDGET, Own, ServerFault, Shared,
-    Timing,
-};
+use common::{Clock, Front, Gated, Hand, HeavyMarks, Own, Shared, Timing};
 use log::Log;
 use ready::{AllBusy, ReadyQueue, Ticket};
+use sizes::{FIRST_LIGHT, OWN_BUDGET, ServerFault};
 use std::sync::Wait;
 
 /// Why a light ticket stays in hand.

@@ -9,11 +9,12 @@ ghost use Rattle.common.specs.Acts as act;
 
 use crate::gone::log_gone;
 use claims::ClaimSeat;
-use common::{Berth, ClientsAt, Front, Gated, Moves, Own, Settle, Shared, ended_by, moved_by};
+use common::{Berth, Front, Gated, Moves, Own, Settle, Shared, ended_by, moved_by};
 use engine::{Moment, Turn};
 use log::Log;
 use ready::Ticket;
 use relay_core::{MAX_READ, Pair};
+use sizes::ClientsAt;
 use std::sync::Wait;
 
 /// What one turn is held to: it makes at most `budget` calls, all at one moment.

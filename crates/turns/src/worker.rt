@@ -8,13 +8,12 @@ ghost use Rattle.turns.specs.Turns.{AtWork, Handled, Handling, LeftSlot, Plays, 
 use crate::giving::{give_back, put_ticket};
 use crate::visit::{Back, Terms, Visit, put_in, take_out};
 use claims::{Claimed, Posted, Released};
-use common::{
-    Clock, Front, Gated, Moves, Own, ServerFault, Shared, Timing, give_slots, put_tickets,
-};
+use common::{Clock, Front, Gated, Moves, Own, Shared, Timing, give_slots, put_tickets};
 use engine::Turn;
 use log::Log;
 use ready::Ticket;
 use relay_log::log_end;
+use sizes::ServerFault;
 use std::sync::Wait;
 
 /// The outcome of a worker's turn.

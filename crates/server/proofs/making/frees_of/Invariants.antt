@@ -1,6 +1,6 @@
 use Rattle.std.{proofs.Common.{◌≡◌, ℕ, ◌∷◌, map, replicate}, specs.List.range_with_len}
 use Rattle.ready.specs.Steps.{unused, opened}
-use Rattle.common.specs.Splits.{part_of}
+use Rattle.sizes.specs.Splits.{part_of}
 use Rattle.server.proofs.making.frees_of.Given as goal
 
 abbrev pub invariant-loop-number : goal.invariant-loop-number

@@ -1,6 +1,6 @@
 use Rattle.std.{proofs.Common.{◌≡◌, ◌+◌, ◌++◌, map}, specs.{Vec.Iter.{into_iter_items, into_iter_len}}}
 use Rattle.server.specs.Begins.{all_begun}
-use Rattle.common.specs.Splits.{parts_of}
+use Rattle.sizes.specs.Splits.{parts_of}
 use Rattle.server.proofs.making.pollers_of.Given as goal
 
 -- those that are made, and then those that the other fronts will be made into

@@ -1,5 +1,5 @@
 use Rattle.std.{proofs.Common.{None, Ok, Some, refl}, specs.Option.ok_or}
-use Rattle.common.specs.declared.faults.ServerFault.TheVariants.{Worn}
+use Rattle.sizes.specs.declared.faults.ServerFault.TheVariants.{Worn}
 use Rattle.turns.proofs.Turns.{due_as, played_then}
 use Rattle.turns.specs.declared.worker.Worked.TheVariants as worked
 use Rattle.turns.proofs.worker.run.Goals as goal

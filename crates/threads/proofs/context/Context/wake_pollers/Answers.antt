@@ -1,5 +1,5 @@
 use Rattle.std.proofs.Common.{ℕ, below_none, below_more, arith}
-use Rattle.common.specs.Splits.{part_of}
+use Rattle.sizes.specs.Splits.{part_of}
 use Rattle.threads.proofs.context.Context.wake_pollers.Goals as goal
 
 pub loop-poller-init : goal.loop-poller-init

@@ -1,5 +1,5 @@
 use Rattle.std.proofs.Common.{ℕ, ◌<◌}
-use Rattle.common.specs.Splits.{part_of}
+use Rattle.sizes.specs.Splits.{part_of}
 use Rattle.threads.proofs.context.Context.wake_pollers.Given as goal
 
 -- the pollers so far were woken

@@ -1,6 +1,6 @@
 //! At which level the log names clients.
 ghost use Rattle.std.specs.Prelude.{◌≡◌};
-ghost use Rattle.common.specs.Told.{client_level};
+ghost use Rattle.sizes.specs.Causes.{client_level};
 
 use log::Level;
 

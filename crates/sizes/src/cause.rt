@@ -1,6 +1,6 @@
 //! Why a client was dropped.
 ghost use Rattle.std.specs.Prelude.{◌≡◌};
-ghost use Rattle.common.specs.Told.{cause_name};
+ghost use Rattle.sizes.specs.Causes.{cause_name};
 
 use std::alloc::AllocError;
 
@@ -19,7 +19,7 @@ pub enum Cause {
 }
 
 impl From<AllocError> for Cause {
-    ghost use Rattle.common.specs.declared.cause.Cause.TheVariants.{Memory};
+    ghost use Rattle.sizes.specs.declared.cause.Cause.TheVariants.{Memory};
 
     ghost from_gives = { λ _ cause. cause ≡ Memory };
 

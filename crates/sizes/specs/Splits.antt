@@ -1,7 +1,7 @@
 -- Which slots are a poller's. All are dealt in parts of one size, one after the other, and the last part has what is
 -- left.
 use Rattle.std.specs.{Prelude.{ℕ, ◌*◌, ◌+◌, ◌-◌, ◌/◌, ◌<◌, ◌≤◌, min, List, map}, List.range_with_len}
-use Rattle.common.specs.declared.split.Part.{Part}
+use Rattle.sizes.specs.declared.split.Part.{Part}
 
 -- the slot is in this part
 pub record IsIn (part : Part) (slot : ℕ) : Type 0 where

@@ -1,6 +1,6 @@
 //! Why a server ended early.
 ghost use Rattle.std.specs.Prelude.{◌≡◌};
-ghost use Rattle.common.specs.declared.faults.ServerFault.TheVariants.{NoMemory};
+ghost use Rattle.sizes.specs.declared.faults.ServerFault.TheVariants.{NoMemory};
 
 use std::alloc::{AllocError, AllocFailed};
 use thiserror::Error;

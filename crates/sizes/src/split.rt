@@ -1,6 +1,6 @@
 //! How the slots are dealt to the pollers.
 ghost use Rattle.std.specs.Prelude.{◌≡◌, ◌+◌, ◌*◌, ◌<◌, ◌≤◌, ◌↔◌, IsTrue};
-ghost use Rattle.common.specs.Splits.{part_of, parts_of, IsIn};
+ghost use Rattle.sizes.specs.Splits.{part_of, parts_of, IsIn};
 
 /// A poller's `slots` slots, from `first` on. The poller alone opens connections there and delivers their reports.
 #[derive(Clone, Copy)]

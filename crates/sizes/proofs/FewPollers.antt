@@ -1,6 +1,6 @@
 -- Pollers are few: their square is no more than the slots.
 use Rattle.std.proofs.{Common.{◌≡◌, ◌⊎◌, ℕ, ◌*◌, ◌/◌, ◌≤◌, min, max, subst, sym, arith, inl, inr}, Math.Nat.{div-mul-le_self, mul-le-mul_right}}
-use Rattle.settings.specs.Pollers.{pollers_for}
+use Rattle.sizes.specs.Pollers.{pollers_for}
 use mathlib.Core.Logic.{dite}
 use native.Mathlib.Decide.{ℕ_discrete}
 

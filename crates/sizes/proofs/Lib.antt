@@ -1,0 +1,2 @@
+pub mod FewPollers
+pub mod Slots

@@ -1,0 +1,5 @@
+-- The crate's definitions. A file that the promises do not need says so at its head.
+pub mod Causes
+pub mod Limits
+pub mod Pollers
+pub mod Splits
