@@ -4,9 +4,9 @@
 //! [`act`] does all of that: it gets the arguments ([`arguments`]), a reader, two writers and a closure that serves,
 //! and returns a status. The crate `commands` reads which command the arguments name. `running` makes what a relay
 //! serves with ([`Given`]): [`config`] reads its settings, `extras` the other options, and `starting` looks at what
-//! these need. [`logging`] has the relay's log, [`telling`] its statistics, which `stats_file` writes for a monitor,
-//! and [`until_eof`] the end of its standard input. `streams` logs what is wrong with an input, an output, a file or a
-//! script.
+//! these need. [`Beside`] starts and ends what runs beside the server: [`logging`] has the relay's log, `telling` its
+//! statistics, which `stats_file` writes for a monitor, and `until_eof` the end of its standard input. `streams` logs
+//! what is wrong with an input, an output, a file or a script.
 //!
 //! `report_fault` (`status_of` of `specs/Faults.antt`) and `answer_usage` give the statuses that `relayd(1)` names
 //! (EXIT STATUS); `simulate` says by the status whether the report or a fault's line was written (`report`, `refused`).
@@ -24,15 +24,14 @@ mod standard_streams;
 mod starting;
 mod stats_file;
 mod streams;
-pub mod telling;
-pub mod until_eof;
+mod telling;
+mod until_eof;
 
 pub use acting::{act, report_arguments_fault};
 pub use extras::{Extras, NumberOption};
 pub use faults::{ArgumentsFault, ConfigFault, ProgramFault, arguments};
-pub use logging::starting_filter;
 pub use recording_file::RecordFiles;
-pub use running::Given;
+pub use running::{Beside, Given};
 pub use standard_streams::{hold_closed, report_unheld};
-pub use starting::{foresee, log_start, prepare, print_listening};
+pub use starting::{foresee, prepare, print_listening};
 pub use stats_file::{Replacing, StatsFile};

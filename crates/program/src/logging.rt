@@ -81,7 +81,7 @@ pub(crate) fn level_filter(level: LogLevel) -> LevelFilter
 
 /// The filter before the relay serves: at `off` the cause of a fault is still logged, since nothing else says why there
 /// is no relay.
-pub fn starting_filter(level: LogLevel) -> LevelFilter
+pub(crate) fn starting_filter(level: LogLevel) -> LevelFilter
     ensures off { level ≡ LogLevel.Off → result ≡ LevelFilter.Error }
     ensures others { level ≢ LogLevel.Off → map to_ascii_lowercase (filter_name result) ≡ level_name level }
 {
@@ -93,7 +93,7 @@ pub fn starting_filter(level: LogLevel) -> LevelFilter
 
 /// Starts a thread that writes the lines of a new queue until the queue is closed or the program ends. Refuses with
 /// `NoMemory`. Refuses with `Threads`, and logs the cause, if the thread cannot be started.
-pub fn start<R>(rt: R) -> Result<Arc<LogQueue>, ServerFault>
+pub(crate) fn start<R>(rt: R) -> Result<Arc<LogQueue>, ServerFault>
 where
     R: AllocGlobal + Threads + Eprint + Wait + Env + Files + Send + Copy + Drop + 'static,
     ensures refused { IfErr result (λ fault. (fault ≡ ServerFault.NoMemory) ⊎ (fault ≡ ServerFault.Threads)) }
@@ -113,7 +113,7 @@ where
 }
 
 /// Closes the queue, and waits a second at most until all of it is written. Returns true if all was written.
-pub fn finish(rt: &impl Wait, queue: &LogQueue) -> bool {
+pub(crate) fn finish(rt: &impl Wait, queue: &LogQueue) -> bool {
     queue.close();
     let clock = Parker::new();
     for _millisecond in 0..LAST_WAIT {

@@ -1,24 +1,38 @@
-//! The start of a relay: what is read, looked at and made before it serves, in this order.
-ghost use Rattle.std.specs.Prelude.{◌≡◌, IfOk};
+//! The start of a relay: what is read, looked at and made before it serves, in this order; and what runs beside its
+//! server.
+ghost use Rattle.std.specs.Prelude.{◌≡◌, ◌⊎◌, IfOk, IfErr};
 
 use crate::config;
 use crate::extras::{Extras, extras_of};
 use crate::faults::{DONE, ProgramFault};
-use crate::logging::{direct_log, starting_filter};
+use crate::logging::{self, Until, direct_log, starting_filter};
 use crate::recording_file::{RecordFiles, create, find_place};
-use crate::starting::{look_at_addresses, prepare, warn_of_short_time, warn_of_silence};
-use crate::stats_file::{StatsFile, find_file};
+use crate::starting::{
+    log_start, look_at_addresses, prepare, print_listening, warn_of_short_time, warn_of_silence,
+};
+use crate::stats_file::{Replacing, StatsFile, find_file};
+use crate::telling::{self, Teller};
+use crate::until_eof;
 use commands::{Relay, Source};
-use log::Log;
-use settings::Settings;
+use common::Gate;
+use log::{Log, Logged};
+use settings::{LogLevel, Settings};
 use sizes::ServerFault;
-use sockets::{Bound, bind};
+use sockets::{Bound, Stop, bind};
+use statistics::Statistics;
 use std::alloc::AllocGlobal;
+use std::cell::Cell;
 use std::env::Env;
-use std::io::Eprint;
-use std::net::Net;
+use std::io::{Eprint, Stdin, Stdout};
+use std::net::{Net, SocketAddr};
 use std::os::fd::AsRawFd;
 use std::rt::Files;
+use std::sync::atomic::AtomicBool;
+use std::sync::atomic::Ordering::SeqCst;
+use std::sync::{Arc, Wait};
+use std::thread::Threads;
+use std::time::Clock;
+use writer_queue::{LogQueue, Queued};
 
 /// What a relay serves with.
 #[derive(Drop)]
@@ -139,4 +153,96 @@ fn settings_of<R: AllocGlobal + Files, L: Log>(
         Source::Arguments(text) => config::parse_arguments(log, rt.alloc(), text.as_bytes()),
     };
     settings.map_err(ProgramFault::of_arguments)
+}
+
+/// What runs beside a server, which prints where the relay listens once all of its threads have been started. If that
+/// cannot be printed, no connection is opened from then on.
+#[derive(Drop)]
+pub struct Beside<R> {
+    pub rt: R,
+    output: Stdout,
+    listen: SocketAddr,
+    level: LogLevel,
+    queue: Arc<LogQueue>,
+    /// At level off, only the cause of a fault that ends the relay is logged once all threads run.
+    is_off: AtomicBool,
+    is_unprinted: AtomicBool,
+    /// Set once no more connections may be opened.
+    pub stop: Arc<Stop>,
+    teller: Option<Arc<Teller>>,
+}
+
+impl<R: Copy + Drop> Beside<R> {
+    /// Starts the log, logs the relay's start, and starts what else the options ask for. Refuses with `NoMemory`.
+    /// Refuses with `Threads`, and logs the cause, if a thread cannot be started.
+    pub fn start(
+        rt: R,
+        input: Stdin,
+        output: Stdout,
+        given: &mut Given<R>,
+    ) -> Result<Beside<R>, ServerFault>
+    where
+        R: AllocGlobal + Threads + Eprint + Wait + Env + Files + Clock + Replacing + Send + 'static,
+        ensures refused { IfErr result (λ fault. (fault ≡ ServerFault.NoMemory) ⊎ (fault ≡ ServerFault.Threads)) }
+    {
+        let (listen, level) = (given.bound.text(), given.settings.log);
+        let queue = logging::start(rt)?;
+        let (filter, lines) = (starting_filter(level), Queued { rt, queue: &queue });
+        log_start(&Logged::new(rt, filter, lines), listen, &given.settings);
+        let stop = until_eof::watch(rt, input, level, given.extras.until_eof, &queue)?;
+        let (stats, file) = (given.extras.stats, given.stats_file.take());
+        let teller = telling::start(rt, &given.settings, stats, file, &queue)?;
+        Ok(Beside {
+            rt,
+            output,
+            listen,
+            level,
+            queue,
+            is_off: AtomicBool::new(false),
+            is_unprinted: AtomicBool::new(false),
+            stop,
+            teller,
+        })
+    }
+
+    /// The log of the server.
+    pub fn log(&self) -> Logged<R, Until<'_, Queued<'_, R>>> {
+        let (rt, queue, is_off) = (self.rt, &self.queue, &self.is_off);
+        let inner = Queued { rt, queue };
+        Logged::new(rt, starting_filter(self.level), Until { inner, is_off })
+    }
+
+    /// Where the server counts; None if nothing is counted.
+    pub fn statistics(&self) -> Option<&Arc<Statistics>> {
+        let teller = self.teller.as_ref()?;
+        Some(&teller.statistics)
+    }
+
+    /// Tells the last sums, and ends the log. Sets `is_stuck` if not all of that was written, since a write to standard
+    /// error may not end then. Returns whether it could print where the relay listens.
+    pub fn finish(&self, is_stuck: &Cell<bool>) -> bool
+    where
+        R: Eprint + Wait + Replacing,
+    {
+        if let Some(teller) = &self.teller {
+            teller.tell(&self.rt, &self.queue, true);
+        }
+        is_stuck.set(!logging::finish(&self.rt, &self.queue));
+        !self.is_unprinted.load(SeqCst)
+    }
+}
+
+impl<R: AllocGlobal + Env + Files + Eprint + Copy + Drop> Gate for Beside<R> {
+    fn all_started(&self) {
+        self.is_off.store(self.level == LogLevel::Off, SeqCst);
+        let mut output = self.output;
+        if !print_listening(&self.rt, self.listen, &mut output) {
+            self.is_unprinted.store(true, SeqCst);
+            self.stop.set();
+        }
+    }
+
+    fn before_turn(&self, _slot: usize) {}
+
+    fn after_turn(&self, _slot: usize) {}
 }

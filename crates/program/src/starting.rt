@@ -198,7 +198,7 @@ fn warn_of_few(log: &impl Log, slots: usize, set: usize, most: u64, needs: u64) 
 }
 
 /// Logs where a relay listens, and its target, slots, workers and pollers.
-pub fn log_start(log: &impl Log, listen: SocketAddr, settings: &Settings) {
+pub(crate) fn log_start(log: &impl Log, listen: SocketAddr, settings: &Settings) {
     let (target, slots, workers) = (
         SocketAddr::from(settings.target),
         settings.slots,

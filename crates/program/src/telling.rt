@@ -23,10 +23,10 @@ const FILE_SECONDS: u32 = 15;
 
 /// The statistics of a relay, and where they are logged.
 #[derive(Drop)]
-pub struct Teller {
+pub(crate) struct Teller {
     alloc: Global,
     /// Where the threads of the relay count.
-    pub statistics: Arc<Statistics>,
+    pub(crate) statistics: Arc<Statistics>,
     seconds: u32,
     level: LogLevel,
     logs_line: bool,
@@ -46,7 +46,7 @@ struct State {
 /// at the interval of the options until the program ends. At level `off` no line is logged, and without a file nothing
 /// is counted. With a file, that is written at once. Refuses with `NoMemory`. Refuses with `Threads`, and logs the
 /// cause, if the thread cannot be started.
-pub fn start<R>(
+pub(crate) fn start<R>(
     rt: R,
     settings: &Settings,
     stats: Option<u32>,
@@ -111,16 +111,6 @@ where
     }
 }
 
-/// Tells the sums of a relay that ends, if it counts.
-pub fn tell_last<R>(rt: R, teller: Option<&Arc<Teller>>, queue: &LogQueue)
-where
-    R: Eprint + Wait + Replacing + Copy + Drop,
-{
-    if let Some(teller) = teller {
-        teller.tell(&rt, queue, true);
-    }
-}
-
 impl Teller {
     /// Waits for the interval. With a file, it looks each second whether all slots are taken.
     fn wait<R: Wait + Clock>(&self, rt: &R) {
@@ -135,7 +125,7 @@ impl Teller {
     }
 
     /// Logs the sums, at level info, whatever level the settings have, and writes them into the file.
-    fn tell<R>(&self, rt: &R, queue: &LogQueue, is_last: bool)
+    pub(crate) fn tell<R>(&self, rt: &R, queue: &LogQueue, is_last: bool)
     where
         R: Eprint + Wait + Replacing + Copy + Drop,
     {

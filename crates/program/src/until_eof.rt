@@ -19,7 +19,7 @@ use writer_queue::{Direct, LogQueue, Queued};
 /// Returns a stop. If standard input `is_sign`, starts a thread that reads standard input to its end, throws that away,
 /// and sets the stop. A read that fails counts as the end. Logs the end at level info, a failed read at level warn.
 /// Refuses with `NoMemory`. Refuses with `Threads`, and logs the cause, if the thread cannot be started.
-pub fn watch<R>(
+pub(crate) fn watch<R>(
     rt: R,
     input: Stdin,
     level: LogLevel,

@@ -1,35 +1,27 @@
-//! What the program lends the server: a gate that prints where it listens, and the clock for the idle limit.
+//! What the program lends the server.
 use libc::types::timespec;
-use server::{Clock, Gate, Stop};
-use settings::LogLevel;
-use std::net::SocketAddr;
-use std::sync::atomic::AtomicBool;
-use std::sync::atomic::Ordering::SeqCst;
+use program::{Beside, Given};
+use server::{Clock, Lent, Outcome, System, serve_recorded};
 
-/// Prints where the relay listens once all of its threads have been started. If that cannot be printed, no connection
-/// is opened from then on. At level `off`, only the cause of a fault that ends the relay is logged from then on.
-#[derive(Drop)]
-pub struct Announcing<'a> {
-    pub rt: HostRuntime,
-    pub address: SocketAddr,
-    pub level: LogLevel,
-    pub is_off: &'a AtomicBool,
-    pub stop: &'a Stop,
-    pub is_unprinted: AtomicBool,
-}
-
-impl Gate for Announcing<'_> {
-    fn all_started(&self) {
-        self.is_off.store(self.level == LogLevel::Off, SeqCst);
-        if !program::print_listening(&self.rt, self.address, &mut self.rt.stdout()) {
-            self.is_unprinted.store(true, SeqCst);
-            self.stop.set();
-        }
-    }
-
-    fn before_turn(&self, _slot: usize) {}
-
-    fn after_turn(&self, _slot: usize) {}
+/// Serves with what is given, and with what runs beside the server.
+pub fn serve<R: System>(
+    rt: &R,
+    beside: &Beside<HostRuntime>,
+    given: Given<HostRuntime>,
+) -> Outcome {
+    let (settings, extras) = (given.settings, given.extras);
+    let lent = Lent {
+        rt,
+        alloc: beside.rt.alloc(),
+        gate: beside,
+        clock: &MonotonicClock,
+        stop: &beside.stop,
+        statistics: beside.statistics(),
+        patience: extras.patience,
+        log_clients: extras.log_clients,
+    };
+    let most = extras.most_of_part();
+    serve_recorded(&settings, given.bound, lent, given.files, most)
 }
 
 /// The system's monotonic clock (clock_gettime(2)): the whole seconds since some moment before the program began, or

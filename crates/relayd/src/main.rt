@@ -5,84 +5,53 @@
 
 mod lent;
 
-use lent::{Announcing, MonotonicClock};
-use log::Logged;
-use program::logging::{self, Errors, Until};
-use program::{Given, report_unheld, telling, until_eof};
+use program::logging::Errors;
+use program::{Beside, Given, report_unheld};
 use replaying::OnMachine;
 use script::Simulator;
-use server::{Lent, ServerFault};
+use server::ServerFault;
 use std::cell::Cell;
 use std::process::ExitCode;
-use std::sync::atomic::AtomicBool;
-use std::sync::atomic::Ordering::SeqCst;
-use writer_queue::Queued;
 
 fn main(rt: HostRuntime) -> ExitCode {
-    let (mut input, mut output) = (rt.stdin(), rt.stdout());
+    let mut output = rt.stdout();
     // First: a file opened before would get the number of a closed stream.
-    let held = match program::hold_closed(&rt, &input, &output, &rt.stderr()) {
+    let held = match program::hold_closed(&rt, &rt.stdin(), &output, &rt.stderr()) {
         Ok(held) => held,
         Err(fault) => return ExitCode::from(report_unheld(&mut output, &mut rt.stderr(), &fault)),
     };
     let is_stuck = Cell::new(false);
+    let serve = |mut given: Given<HostRuntime>| -> Result<bool, ServerFault> {
+        let beside = Beside::start(rt, rt.stdin(), rt.stdout(), &mut given)?;
+        let served = lent::serve(&beside.log(), &beside, given);
+        let is_printed = beside.finish(&is_stuck);
+        served.into_result().and(Ok(is_printed))
+    };
+    ExitCode::from(act(rt, held.has_output(), &is_stuck, &serve))
+}
+
+/// Runs the program by its arguments, on its own streams. Returns the status.
+fn act<S>(rt: HostRuntime, is_closed: bool, is_stuck: &Cell<bool>, serve: &S) -> u8
+where
+    S: Fn(Given<HostRuntime>) -> Result<bool, ServerFault>,
+    requires { S.IsAlwaysCallable serve.now }
+{
     let mut errors = Errors {
         inner: rt.stderr(),
-        is_stuck: &is_stuck,
+        is_stuck,
     };
-    let serve = |given: Given<HostRuntime>| -> Result<bool, ServerFault> {
-        let (settings, extras, address) = (given.settings, given.extras, given.bound.text());
-        let queue = logging::start(rt)?;
-        // Set at level off once all threads run: only the cause of a fault that ends the relay is logged then.
-        let is_off = AtomicBool::new(false);
-        let lines = Until {
-            inner: Queued { rt, queue: &queue },
-            is_off: &is_off,
-        };
-        let log = Logged::new(rt, program::starting_filter(settings.log), lines);
-        program::log_start(&log, address, &settings);
-        let stop = until_eof::watch(rt, rt.stdin(), settings.log, extras.until_eof, &queue)?;
-        let teller = telling::start(rt, &settings, extras.stats, given.stats_file, &queue)?;
-        let teller = teller.as_ref();
-        let gate = Announcing {
-            rt,
-            address,
-            level: settings.log,
-            is_off: &is_off,
-            stop: &stop,
-            is_unprinted: AtomicBool::new(false),
-        };
-        let lent = Lent {
-            rt: &log,
-            alloc: rt.alloc(),
-            gate: &gate,
-            clock: &MonotonicClock,
-            stop: &stop,
-            statistics: teller.map(|teller| &teller.statistics),
-            patience: extras.patience,
-            log_clients: extras.log_clients,
-        };
-        let most = extras.most_of_part();
-        let served = server::serve_recorded(&settings, given.bound, lent, given.files, most);
-        telling::tell_last(rt, teller, &queue);
-        // A write to standard error may not end once the log could not be written.
-        is_stuck.set(!logging::finish(&rt, &queue));
-        served.into_result()?;
-        Ok(!gate.is_unprinted.load(SeqCst))
-    };
-    let status = match program::arguments(&rt) {
+    match program::arguments(&rt) {
         Ok(arguments) => program::act(
             &rt,
             arguments.as_slice(),
-            &mut input,
-            &mut output,
-            held.has_output(),
+            &mut rt.stdin(),
+            &mut rt.stdout(),
+            is_closed,
             &mut errors,
-            &serve,
+            serve,
             &OnMachine,
             &Simulator,
         ),
         Err(fault) => program::report_arguments_fault(&rt, &mut errors, fault),
-    };
-    ExitCode::from(status)
+    }
 }

@@ -9,7 +9,9 @@ use crate::opening::open;
 use crate::poller::Poller;
 use crate::sweeping::{is_due, keep_time};
 use claims::Claims;
-use common::{Acts, Clock, Front, Hand, Moves, Own, Shared, Timing, Unaccepted, Waiting, unaccepted_of};
+use common::{
+    Acts, Clock, Front, Hand, Moves, Own, Shared, Timing, Unaccepted, Waiting, unaccepted_of,
+};
 use log::{Log, error};
 use relay_log::log_all_taken;
 use sizes::{LISTENER, MAX_ACCEPTS, MAX_BATCH, ServerFault};

@@ -10,8 +10,8 @@ mod making;
 mod serving;
 
 pub use common::{Clock, Gate};
-pub use sizes::ServerFault;
 pub use making::{build, split_of};
 pub use serving::{Lent, System, serve, serve_recorded};
+pub use sizes::ServerFault;
 pub use sockets::{Bound, Stop};
 pub use threads::Outcome;
