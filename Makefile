@@ -76,13 +76,10 @@ $(PROGRAM):
 
 # What is installed: the folder below PREFIX, and the file here.
 DOCUMENTS = share/doc/relayd
-MANUALS = FORMATS GLOSSARY MODEL OPERATIONS PROMISES
-space = $(subst ,, )
 INSTALLED = $(addprefix bin:,$(PROGRAM) packaging/relayd-drain packaging/relayd-trace) \
   lib/systemd/system:packaging/relayd.service \
   $(addprefix share/man/man1:man/,relayd.1 relayd-drain.1 relayd-trace.1) share/man/man5:man/relayd.toml.5 \
-  $(patsubst %,$(DOCUMENTS):docs/%.md,$(MANUALS)) \
-  $(addprefix $(DOCUMENTS):,README.md CHANGELOG.md SECURITY.md LICENSE-APACHE LICENSE-MIT packaging/copyright) \
+  $(addprefix $(DOCUMENTS):,$(wildcard docs/*/* *.md LICENSE-*) packaging/copyright) \
   $(addprefix $(DOCUMENTS)/examples:,$(wildcard examples/*) \
     $(addprefix packaging/,deployment.yaml drain.conf sidecar.yaml))
 # What shells complete, which is made of the program's help: below PREFIX/share.
@@ -104,7 +101,7 @@ install: $(PROGRAM)
 	done
 	@packaging/completions $(PROGRAM) "$(DESTDIR)$(PREFIX)/share" $(COMPLETIONS)
 	@cd "$(DESTDIR)$(PREFIX)" && sed -i -e 's|/usr/local/|$(PREFIX)/|g' \
-	  -e 's;`docs/\($(subst $(space),\|,$(MANUALS))\)\.md;`\1.md;g' -e 's;`packaging/\([a-z]*\.\(conf\|yaml\)\);`examples/\1;g' \
+	  -e 's;\bdocs/[a-z]*/\([A-Z]*\.md\);\1;g' -e 's;`packaging/\([a-z]*\.\(conf\|yaml\)\);`examples/\1;g' \
 	  lib/systemd/system/relayd.service $(DOCUMENTS)/examples/*.conf $(DOCUMENTS)/*.md
 
 ## make uninstall     removes what make install has put there, with the same PREFIX and DESTDIR

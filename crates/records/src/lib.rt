@@ -6,7 +6,7 @@
 //!
 //! [`Parts`] are the files of a recording.
 //!
-//! `docs/FORMATS.md` describes the lines; `specs/Texts.antt` has them as definitions.
+//! `FORMATS.md` describes the lines; `specs/Texts.antt` has them as definitions.
 #![tactic(auto)]
 
 mod act;

@@ -1,4 +1,4 @@
-//! The simulator: it takes a script of steps, and gives a report of the state after them, as `docs/FORMATS.md`
+//! The simulator: it takes a script of steps, and gives a report of the state after them, as `FORMATS.md`
 //! describes both.
 //!
 //! [`parse`] reads the whole text before the first step is made, [`Script::carry_out`] makes the steps one by one, and

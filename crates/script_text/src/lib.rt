@@ -1,4 +1,4 @@
-//! What the lines of a script say, as `docs/FORMATS.md` describes them.
+//! What the lines of a script say, as `FORMATS.md` describes them.
 //!
 //! [`Lines`] gives the lines of a text that are not skipped; their words are pieces of `input`. [`read_header`] reads
 //! the first line, and [`read_step`] or [`read_event`] each other line, by what the header covers. If a line cannot be

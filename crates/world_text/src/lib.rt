@@ -1,4 +1,4 @@
-//! What is written of a world and of its events, as `docs/FORMATS.md` describes it.
+//! What is written of a world and of its events, as `FORMATS.md` describes it.
 //!
 //! [`print`] gives the report of a world, [`Outline`] the lines of a report that an event changes, and
 //! [`event_reason`] why an event is not allowed. [`put_header`] and [`put_event`] add lines of a script to a [`Page`],
