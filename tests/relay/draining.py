@@ -6,28 +6,38 @@ import pathlib
 import re
 import shutil
 import signal
+import socket
 import subprocess
 import time
 
-from loopback import TESTS, WAIT, Relay, echo, in_thread, settings_file, start, target, until
-from shared import LONGEST, asked, connected, is_closed_soon, is_open, left_out, numbers_in, unused_port
+from loopback import TESTS, WAIT, Relay, echo, in_thread, read_all, start, target, until
+from shared import LONGEST, asked, connected, having, is_closed_soon, is_open, left_out, numbers_in
 
 DRAIN = os.path.abspath(f"{TESTS}/../packaging/relayd-drain")
 BUSY = 50
 
 
 @contextlib.contextmanager
-def drained(seconds=WAIT, words=("forward", "127.0.0.1:0"), program=None):
-    """A relay that it runs in a group of its own, and the port at which that listens, if it does; the group is ended with it."""
-    words = [DRAIN, *words, f"127.0.0.1:{target(echo)}", "--stats", "86400"]
-    variables = {**os.environ, "RELAYD": program or Relay.program, "RELAYD_DRAIN_SECONDS": str(seconds)}
-    process = start(words, env=variables, stdout=subprocess.PIPE, stderr=subprocess.PIPE, start_new_session=True)
+def drained(seconds=WAIT, errors=subprocess.PIPE):
+    """A relay that it runs in a group of its own, and the port at which that listens; the group is ended with it."""
+    words = [DRAIN, "forward", "127.0.0.1:0", f"127.0.0.1:{target(echo)}", "--stats", "86400"]
+    variables = {**os.environ, "RELAYD": Relay.program, "RELAYD_DRAIN_SECONDS": str(seconds)}
+    process = start(words, env=variables, stdout=subprocess.PIPE, stderr=errors, start_new_session=True)
     try:
-        port = process.stdout.readline().rpartition(":")[2]
-        yield process, int(port) if port else None
+        yield process, int(process.stdout.readline().rpartition(":")[2])
     finally:
         with contextlib.suppress(ProcessLookupError):
             os.killpg(process.pid, signal.SIGKILL)
+
+
+def is_gone(process):
+    """Whether within a second nothing is left of its group, for which systemd would wait."""
+    with contextlib.suppress(ProcessLookupError):
+        for _ in range(20):
+            os.killpg(process.pid, 0)
+            time.sleep(0.05)
+        return False
+    return True
 
 
 def ask_until(client, is_over):
@@ -56,18 +66,22 @@ def a_signal_cuts_none_of_the_connections():
             last = log.splitlines()[-1]
             had = numbers_in(last)
             # Before it was refused, `is_open` connected now and then.
-            assert process.returncode == 0 and "] stats " in last and had["open"] == had["failed"] == had["dropped"] == 0, log
+            assert process.returncode == 0 and is_gone(process), log
+            assert "] stats " in last and had["open"] == had["failed"] == had["dropped"] == 0, log
             assert had["opened"] == had["done"] >= BUSY
 
 
 def those_that_are_left_are_cut_in_time():
-    with drained(seconds=2) as (process, port), connected(port) as client:
-        assert asked(client)
+    # It says how many there are after ten seconds, and how many it cuts after one more. The journal is a socket, too.
+    journal, its_errors = socket.socketpair()
+    with its_errors, drained(11, its_errors) as (process, port), connected(port) as client, connected(port) as other:
+        assert asked(client) and asked(other)
         begun = time.monotonic()
         process.terminate()
         assert until(lambda: not is_open(port)) and asked(client)
-        assert process.wait(WAIT) == 128 + signal.SIGKILL and time.monotonic() - begun >= 2
+        assert process.wait(WAIT) == 128 + signal.SIGKILL and time.monotonic() - begun >= 11 and is_gone(process)
         assert is_closed_soon(client)
+    assert having(read_all(journal).decode().splitlines(), "drain: ") == ["drain: 2 left, cut in 1 s", "drain: 2 cut"]
 
 
 def a_relay_outlives_what_ran_it_until_its_last_client():
@@ -79,24 +93,6 @@ def a_relay_outlives_what_ran_it_until_its_last_client():
             assert until(lambda: not is_open(port)) and asked(client)
         # It ends, and so its output.
         assert process.communicate(timeout=WAIT)[1].count("done") >= 1
-
-
-def systemd_runs_it_by_the_drop_in():
-    # A stop is SIGTERM for the whole group, and SIGKILL later than the last connection is waited for.
-    text = pathlib.Path(TESTS, "../packaging/drain.conf").read_text()
-    set_to = lambda key: re.findall(f"^{key}=(.+)$", text, re.M)
-    (command,), (variables,), (latest,) = set_to("ExecStart"), set_to("Environment"), set_to("TimeoutStopSec")
-    assert int(latest) > int(dict(it.split("=") for it in variables.split())["RELAYD_DRAIN_SECONDS"])
-    variables, port = variables.replace("/usr/local/bin/relayd", Relay.program).split(), unused_port()
-    with settings_file({"listen": f"127.0.0.1:{port}", "target": f"127.0.0.1:{target(echo)}"}) as settings:
-        words = command.replace("/usr/local/bin/relayd-drain", DRAIN).replace("/etc/relayd.toml", settings).split()
-        process = start(["env", *variables, *words], stdout=subprocess.PIPE, stderr=subprocess.DEVNULL, start_new_session=True)
-        assert process.stdout.readline() == f"listening 127.0.0.1:{port}\n"
-        with connected(port) as client:
-            assert asked(client)
-            os.killpg(process.pid, signal.SIGTERM)
-            assert until(lambda: not is_open(port)) and asked(client) and process.poll() is None
-        assert process.wait(WAIT) == 0
 
 
 def a_container_begins_with_it():
@@ -122,12 +118,20 @@ def a_container_begins_with_it():
             assert process.poll() is None
 
 
-def its_status_is_that_of_the_relay():
-    for words, program, status in (
-        (["forward", "127.0.0.1"], None, 2), (["run", "--config"], None, 1), (["check"], None, 2),
-        (["forward", "127.0.0.1:0"], "/no/program", 127),
+def its_status_is_that_of_the_relay_or_what_it_refuses():
+    # Nothing is made or started for a command line or a variable that it refuses.
+    served, seconds = ["forward", "127.0.0.1:0", "127.0.0.1:9"], "RELAYD_DRAIN_SECONDS"
+    none, number = {"TMPDIR": "/none"}, "a whole number up to 999999999 is wanted"
+    itself = {"RELAYD": DRAIN}, 2, f"{DRAIN} is relayd-drain itself: let RELAYD name relayd\n"
+    for words, variables, status, said in (
+        (["forward", "127.0.0.1"], {}, 2, "relayd forward"), (["run", "--config", "/none"], {seconds: "9" * 9}, 1, "config: "),
+        (served, {"RELAYD": "/no/program"}, 127, "/no/program"), (["check"], none, 2, "usage: relayd-drain run|"),
+        (served, *itself), (["--version"], *itself),
+        ([*served, "--until-eof"], none, 2, "--until-eof: it is given to relayd anyway, so leave it out\n"),
+        *((served, {**none, seconds: it}, 2, f"{seconds}={it}: {number}\n") for it in ("a while", "-1", "07", "9" * 10)),
+        *(([it], {**none, "RELAYD": "/none"}, 0, f" {seconds} (60) are cut: man relayd-drain\n") for it in ("-h", "--help")),
+        *(([it], none, 0, "relayd 0.1.0\nusage: relayd-drain run|forward ") for it in ("-V", "--version")),
     ):
-        with drained(words=words, program=program) as (process, port):
-            assert process.wait(WAIT) == status and port is None
-    with drained(seconds="a while") as (process, port):
-        assert process.wait(WAIT) == 2 and port is None
+        variables = {**os.environ, "RELAYD": Relay.program, **variables}
+        done = subprocess.run([DRAIN, *words], env=variables, capture_output=True, text=True, timeout=WAIT)
+        assert done.returncode == status and said in (done.stderr if status else done.stdout), (words, variables, done)
