@@ -159,6 +159,20 @@ def is_replaced_at_another_address():
         assert until(lambda: not is_open(other))
 
 
+def is_replaced_however_late_it_ends():
+    # The first one is told of the end of its input after three seconds, and listens until then.
+    with replaceable() as (folder, port, settings, program):
+        late = pathlib.Path(folder, "late")
+        late.write_text(f'#!/bin/sh\n[ "$1" = run ] || exec "{program}" "$@"\n(cat && sleep 3) | "{program}" "$@"\n')
+        late.chmod(0o755)
+        assert replace(folder, settings, late).stdout == f"listening 127.0.0.1:{port}\n"
+        with connected(port) as client:
+            assert asked(client)
+            assert replace(folder, settings, program).stdout == f"listening 127.0.0.1:{port}\n" and asked(client)
+        end_holder(folder)
+        assert until(lambda: not is_open(port))
+
+
 @by_time
 def is_replaced_under_load():
     # Twice, beside clients that ask one after the other, each time on a connection of its own, and clients that keep theirs. No
