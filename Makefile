@@ -81,9 +81,12 @@ INSTALLED = $(addprefix bin:,$(PROGRAM) packaging/relayd-drain packaging/relayd-
   $(addprefix share/man/man1:man/,relayd.1 relayd-drain.1 relayd-trace.1) share/man/man5:man/relayd.toml.5 \
   $(addprefix $(DOCUMENTS):,$(wildcard docs/*/* *.md LICENSE-*) packaging/copyright) \
   $(addprefix $(DOCUMENTS)/examples:,$(wildcard examples/*) \
-    $(addprefix packaging/,deployment.yaml drain.conf sidecar.yaml))
-# What shells complete, which is made of the program's help: below PREFIX/share.
-COMPLETIONS = bash-completion/completions/relayd zsh/site-functions/_relayd fish/vendor_completions.d/relayd.fish
+    $(addprefix packaging/,deployment.yaml drain.conf relayd.default sidecar.yaml))
+# What shells complete, which is made of the program's help.
+COMPLETIONS = $(foreach it,relayd relayd-drain, \
+  $(addprefix share/,bash-completion/completions:$(it) zsh/site-functions:_$(it) fish/vendor_completions.d:$(it).fish))
+# The options of the unit, which are installed where there are none; an archive, that would replace them, has them not.
+OPTIONS = $(if $(filter /usr /usr/local,$(PREFIX)),$(DESTDIR)/etc/default/relayd)
 
 # What is installed names files by their full paths.
 ifneq ($(filter install uninstall dist,$(MAKECMDGOALS)),)
@@ -99,16 +102,21 @@ install: $(PROGRAM)
 	  test -x "$${it#*:}" && mode=755 || mode=644; \
 	  install -v -D -m $$mode -t "$(DESTDIR)$(PREFIX)/$${it%%:*}" "$${it#*:}" || exit 1; \
 	done
-	@packaging/completions $(PROGRAM) "$(DESTDIR)$(PREFIX)/share" $(COMPLETIONS)
-	@cd "$(DESTDIR)$(PREFIX)" && sed -i -e 's|/usr/local/|$(PREFIX)/|g' \
-	  -e 's;\bdocs/[a-z]*/\([A-Z]*\.md\);\1;g' -e 's;`packaging/\([a-z]*\.\(conf\|yaml\)\);`examples/\1;g' \
+	@test -z "$(OPTIONS)" || test -e "$(OPTIONS)" || install -v -D -m 644 packaging/relayd.default "$(OPTIONS)"
+	@packaging/completions $(PROGRAM) "$(DESTDIR)$(PREFIX)" $(subst :,/,$(COMPLETIONS))
+	@cd "$(DESTDIR)$(PREFIX)" && sed -i -e 's|/usr/local/|$(PREFIX)/|g' -e 's;\bdocs/[a-z]*/\([A-Z]*\.md\);\1;g' \
+	  -e 's;`packaging/\([a-z]*\.\(conf\|default\|yaml\)\);`examples/\1;g' \
 	  lib/systemd/system/relayd.service $(DOCUMENTS)/examples/*.conf $(DOCUMENTS)/*.md
 
 ## make uninstall     removes what make install has put there, with the same PREFIX and DESTDIR
+# It leaves options of the unit that were changed, and takes folders that are empty then, but those that each prefix has.
 uninstall:
-	@cd "$(DESTDIR)$(PREFIX)" && for it in $(INSTALLED); do file=$${it#*:}; rm -vf "$${it%%:*}/$${file##*/}"; done
-	@cd "$(DESTDIR)$(PREFIX)" && rm -vf $(addprefix share/,$(COMPLETIONS))
-	@cd "$(DESTDIR)$(PREFIX)/share/doc" && rmdir --ignore-fail-on-non-empty relayd/examples relayd 2>/dev/null || true
+	@test -z "$(OPTIONS)" || ! cmp -s packaging/relayd.default "$(OPTIONS)" || \
+	  { rm -v "$(OPTIONS)"; rmdir --ignore-fail-on-non-empty "$(DESTDIR)/etc/default"; }
+	@cd "$(DESTDIR)$(PREFIX)" && for it in $(INSTALLED) $(COMPLETIONS) $(DOCUMENTS):BUILD; do \
+	  file=$${it#*:}; it=$${it%%:*}; rm -vf "$$it/$${file##*/}"; \
+	  while case $$it in bin | lib | share | share/man) false ;; esac; do rmdir "$$it" 2>/dev/null || break; it=$${it%/*}; done; \
+	done
 
 # The file BUILD below a prefix: of which commit and with which toolchain the program is, and its checksum. A program older than
 # its sources is built anew before, since it is not of that commit.
@@ -125,13 +133,13 @@ checksum: build
 # It is for machines without the toolchain. The same commit gives the same archive, whatever the umask and the locale are.
 dist: build
 	rm -rf $(OUT)/dist $(OUT)/relayd-*.tar.gz
-	@$(MAKE) --no-print-directory install DESTDIR=$(OUT)/dist >/dev/null
+	@$(MAKE) --no-print-directory install DESTDIR=$(OUT)/dist OPTIONS= >/dev/null
 	@$(call write_build,$(OUT)/dist$(PREFIX))
 	cd $(OUT)/dist && find . -mindepth 1 -print0 | LC_ALL=C sort -z \
 	  | tar --null --no-recursion -T - --owner=0 --group=0 --numeric-owner --mtime=@$(DATE) -cf - | gzip -n9 > $(abspath $(ARCHIVE))
 	@echo $(ARCHIVE)
 
-## make deb           makes a Debian package, build/relayd_VERSION_amd64.deb
+## make deb           makes a Debian package, build/relayd_VERSION_amd64.deb, of CONTACT='NAME <MAIL>' and HOMEPAGE=URL, if set
 deb: build
 	rm -rf $(OUT)/deb $(OUT)/relayd_*.deb
 	@$(MAKE) --no-print-directory install PREFIX=/usr DESTDIR=$(OUT)/deb >/dev/null
