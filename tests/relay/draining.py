@@ -129,7 +129,7 @@ def its_status_is_that_of_the_relay_or_what_it_refuses():
         (served, *itself), (["--version"], *itself),
         ([*served, "--until-eof"], none, 2, "--until-eof: it is given to relayd anyway, so leave it out\n"),
         *((served, {**none, seconds: it}, 2, f"{seconds}={it}: {number}\n") for it in ("a while", "-1", "07", "9" * 10)),
-        *(([it], {**none, "RELAYD": "/none"}, 0, f" {seconds} (60) are cut: man relayd-drain\n") for it in ("-h", "--help")),
+        *(([it], {"RELAYD": "/none"}, 0, f" after {seconds} (60) are cut: man relayd-drain\n") for it in ("-h", "--help")),
         *(([it], none, 0, "relayd 0.1.0\nusage: relayd-drain run|forward ") for it in ("-V", "--version")),
     ):
         variables = {**os.environ, "RELAYD": Relay.program, **variables}
