@@ -34,16 +34,20 @@ def waits_where_descriptors_are_few():
 
 
 # refuses one_connection_without_descriptors: a relay begins that has not the descriptors for one connection
+# refuses file_is_no_descriptor: the file of statistics is not counted among the descriptors
+# refuses next_part_is_no_descriptor: the next part of a recording is not counted among the descriptors
 def needs_descriptors_for_one_connection():
-    # Three streams, the listening socket, a poller's two, a connection's two; one for a recording, and one that is inherited.
-    with open(os.devnull) as file:
-        for recorded in {False, bool(Relay.records)}:
-            for inherited in (), (file.fileno(),):
-                needed = 8 + recorded + len(inherited)
-                how = {"recorded": recorded, "inherited": inherited, "log": "off"}
-                ask_once(Relay(target(echo), descriptors=needed, **how))
-                limit = f"the limit is {needed - 1}, and {needed} are needed for one connection (ulimit -n)"
-                assert Relay(descriptors=needed - 1, **how).ended(1) == [f"relayd: descriptors: {limit}"]
+    # Three streams, the listening socket, a poller's two, a connection's two; one that is inherited; one for the file of
+    # statistics, one for a recording, and two for one in parts.
+    with open(os.devnull) as file, tempfile.TemporaryDirectory() as folder:
+        parts = ["--record", f"{folder}/record", "--record-size", "65536"]
+        made = [(0, {}), (int(bool(Relay.records)), {"recorded": True}), (2, {"options": parts})]
+        made += [(1, {"options": ["--stats-file", f"{folder}/relayd.prom"]})]
+        for (more, how), inherited in itertools.product(made, [(), (file.fileno(),)]):
+            needed, how = 8 + more + len(inherited), {"recorded": False, "inherited": inherited, "log": "off", **how}
+            ask_once(Relay(target(echo), descriptors=needed, **how))
+            limit = f"the limit is {needed - 1}, and {needed} are needed for one connection (ulimit -n)"
+            assert Relay(descriptors=needed - 1, **how).ended(1) == [f"relayd: descriptors: {limit}"]
 
 
 # refuses cause_is_off: at level off nothing says why a relay could not start

@@ -3,6 +3,7 @@
 import collections
 import contextlib
 import os
+import pathlib
 import re
 import tempfile
 import threading
@@ -119,19 +120,78 @@ def a_monitor_finds_the_counts_in_a_file():
     assert {one["relayd_connections_open"] for one in seen} >= {0, 3}
 
 
+def those_over_0(path):
+    """The numbers of such a file that are not 0, without the first word of their names."""
+    return {name.partition("_")[2]: number for name, number in read(path).items() if number}
+
+
+# refuses file_of_another_interval: without --stats the file is replaced once in another time than 15 seconds
+# refuses looks_once_an_interval: it is looked once an interval, and not each second, whether all slots are taken
+# refuses levels_exchanged: the most connections that were open and the seconds with all slots taken are exchanged
+# refuses line_each_second: the line of statistics is logged each second, whatever --stats says
+@by_time
+def tells_the_counts_as_often_as_is_asked():
+    # The line alone comes once in 3 seconds, and the file alone once in 15, with no line.
+    with folder() as (_, path):
+        begun, other = time.monotonic(), Relay(options=["--stats", "3"], log="warn")
+        relay = Relay(target(echo), slots=2, stop_after=2, options=["--stats-file", path])
+        assert until(lambda: os.path.exists(path)) and those_over_0(path) == {"slots": 2}
+        first, clients = os.stat(path).st_mtime, served(relay, 2)
+        assert all([" stats open=0 " in other.process.stderr.readline() for _ in range(3)])
+        assert 9 <= time.monotonic() - begun < 12 and os.stat(path).st_mtime == first
+        assert until(lambda: os.stat(path).st_mtime > first) and 14.9 < os.stat(path).st_mtime - first < 16
+        seconds = read(path)["relayd_slots_full_seconds_total"]
+        wanted = dict.fromkeys(["slots", "connections_open", "connections_open_max", "connections_opened_total"], 2)
+        wanted |= dict.fromkeys(["up_bytes_total", "down_bytes_total"], 2) | {"slots_full_seconds_total": seconds}
+        assert those_over_0(path) == wanted and 14 <= seconds <= 15
+        for client in clients:
+            client.close()
+        assert having(relay.ended(), "] stats ") == [] and read(path)["relayd_connections_done_total"] == 2
+
+
+# refuses file_of_others_is_replaced: a file with the statistics of another program is replaced
+# refuses file_of_an_earlier_relay_is_refused: a relay does not start where another has left its file
+def replaces_no_file_of_others():
+    with folder() as (place, path):
+        file, how = pathlib.Path(path), {"options": ["--stats-file", path], "log": "off"}
+        told = [f"[ERROR relayd] stats-file: {path}: is there, and has no statistics of a relay"]
+        for text in "listen = 1\n", "# HELP node_load1 1m load average.\n", "# HELP relayd":
+            file.write_text(text)
+            assert Relay(1, **how).ended(1) == [*told, "relayd: stats-file: cannot be written"]
+            assert file.read_text() == text and os.listdir(place) == ["relayd.prom"]
+        # One without a byte is, and then that of the first relay. Who may read it stays so.
+        file.write_text("")
+        mode = os.stat(path).st_mode
+        for _ in range(2):
+            relay = Relay(target(echo), stop_after=1, **how)
+            ask_once(relay)
+            assert relay.ended() == [] and read(path)["relayd_connections_opened_total"] == 1
+            assert os.stat(path).st_mode == mode and os.listdir(place) == ["relayd.prom"]
+
+
 # refuses file_fault_ends_the_relay: a relay whose file cannot be written ends
 # refuses file_fault_told_each_time: that the file cannot be written is logged each time
+# refuses file_is_given_up: a file that could not be written once is not tried again
+# refuses what_is_beside_stays: what was made beside the file stays where it cannot be renamed
 def goes_on_without_its_file():
     with folder() as (place, path):
-        relay = Relay(target(echo), stop_after=2, options=["--stats", "1", "--stats-file", path], log="warn")
+        relay = Relay(target(echo), stop_after=3, options=["--stats", "1", "--stats-file", path], log="warn")
         assert until(lambda: os.path.exists(path))
         ask_once(relay)
+        # Its folder is gone, and once that is back, a folder has its name.
         os.rename(place, place + ".gone")
         try:
-            time.sleep(3)
-            ask_once(relay)
-            lines = relay.ended()
+            warning = next(line for line in relay.process.stderr if "] stats-file: " in line)
+            os.remove(f"{place}.gone/relayd.prom")
+            os.mkdir(f"{place}.gone/relayd.prom")
         finally:
             os.rename(place + ".gone", place)
+        time.sleep(2.5)
+        ask_once(relay)
+        assert until(lambda: os.listdir(place) == ["relayd.prom"]) and os.path.isdir(path)
+        os.rmdir(path)
+        assert until(lambda: os.path.exists(path)) and read(path)["relayd_connections_opened_total"] == 2
+        ask_once(relay)
+        assert having(relay.ended(), "] stats-file: ") == [] and read(path)["relayd_connections_done_total"] == 3
     cause = "No such file or directory (os error 2); it is tried again each time"
-    assert having(lines, "] stats-file: ") == [f"[WARN  relayd] stats-file: {path}: {cause}"]
+    assert warning == f"[WARN  relayd] stats-file: {path}: {cause}\n"

@@ -181,13 +181,14 @@ def serves_on_where_no_part_can_be_begun():
 
 
 # refuses records_wait_half_a_second: records are written once in half a second
+# refuses part_is_written_once_it_is_full: of a recording in parts nothing is written before a part is full
 @by_time
 @needs("recording")
 def has_recorded_what_it_did_when_it_is_killed():
-    # But for the last five milliseconds. Now and then a machine under load takes longer.
-    whole = 0
-    for _ in range(5):
-        relay = Relay(target(echo))
+    # But for the last five milliseconds. Now and then a machine under load takes longer. Half of these record in parts.
+    whole = [0, 0]
+    for number in range(10):
+        relay = Relay(target(echo), options=["--record-size", "4294967295"] * (number % 2))
         assert until(lambda: os.path.getsize(relay.record) > 100)
         with relay.connect() as client:
             for _ in range(100):
@@ -195,8 +196,8 @@ def has_recorded_what_it_did_when_it_is_killed():
             time.sleep(0.05)
             relay.process.kill()
         relay.process.wait(WAIT)
-        whole += pathlib.Path(relay.record).read_text().count("client write 1 1\n") == 100
-    assert whole >= 3
+        whole[number % 2] += pathlib.Path(relay.record).read_text().count("client write 1 1\n") == 100
+    assert min(whole) >= 3
 
 
 # refuses full_is_not_told: a recording that lacks records ends as a whole one

@@ -97,6 +97,7 @@ def keeps_a_target_that_takes_nothing():
 
 
 # refuses client_with_a_limit: a client's socket has the limit for connecting
+# refuses limit_probes_too: with --connect-timeout alone sockets probe their peers
 # refuses probes_by_the_systems_numbers: the system's own numbers say when a socket probes its peer
 def has_its_sockets_wait_as_is_asked():
     def found(port, *options):
@@ -107,15 +108,18 @@ def has_its_sockets_wait_as_is_asked():
             return until(lambda: len(waits_of(relay)) == 2) and waits_of(relay)
 
     most, echoing = ("--connect-timeout", "3600", "--keepalive", "32767"), target(echo)
-    with unanswered() as port:
-        started = found(port, *most)
-    if not started:
+    # Of a socket that nobody waits for, the system's own numbers stay.
+    plain, numbers = found(echoing), [32767, 6553, 5]
+    if not plain:
         return left_out("pidfd_getfd")
-    numbers = [32767, 6553, 5]
-    assert started == {"client": [1, 0, *numbers], "target": [1, 3_600_000, *numbers]}
+    own = plain["client"]
+    assert own[:2] == [0, 0] and plain["target"] == own == found(echoing, *most[:2])["target"]
+    with unanswered() as port:
+        assert found(port, *most) == {"client": [1, 0, *numbers], "target": [1, 3_600_000, *numbers]}
+        assert found(port, *most[:2]) == {"client": own, "target": [0, 3_600_000, *own[2:]]}
+        assert found(port, *most[2:]) == dict.fromkeys(["client", "target"], [1, 0, *numbers])
     assert found(echoing, *most) == {"client": [1, 0, *numbers], "target": [1, 0, *numbers]}
     assert found(echoing, "--keepalive", "1") == dict.fromkeys(["client", "target"], [1, 0, 1, 1, 5])
-    assert [each[:2] for each in found(echoing).values()] == [[0, 0], [0, 0]]
 
 
 # refuses peers_are_never_probed: nobody probes a peer that is silent
