@@ -183,6 +183,14 @@ class Relay:
         polls = collections.Counter(re.findall(r" (p\d+) poll 0$", text, re.M))
         return AT_REST.fullmatch(text) and max(polls.values(), default=0) <= 5 * seconds + 2
 
+    def sleeps(self):
+        """Whether each of its threads waits, but for those that end meanwhile. It looks twice: one may have woken another."""
+        states = []
+        for task in 2 * self.tasks():
+            with contextlib.suppress(FileNotFoundError, ProcessLookupError):
+                states.append(pathlib.Path(f"/proc/{self.process.pid}/task/{task}/stat").read_text().rpartition(") ")[2][0])
+        return set(states) == {"S"}
+
     def descriptors(self):
         return [int(name) for name in os.listdir(f"/proc/{self.process.pid}/fd")]
 

@@ -4,9 +4,9 @@ import socket
 import subprocess
 import time
 
-from loopback import WAIT, Relay, echo, start, target
+from loopback import WAIT, Relay, echo, start, target, until
 from shared import answer_and_read, by_time, move_much, needs, served
-from tracing import halted
+from tracing import EPOLL_WAIT, halted
 
 MANY = {"workers": 16, "slots": 1024}  # 16 pollers, too
 SOON = 0.1  # seconds
@@ -30,8 +30,8 @@ def of_a_fault_whichever_thread_met_it():
     times = []
     for number in range(16):
         relay = Relay(target(echo), recorded=False, log="warn", **MANY)
-        time.sleep(0.1)
         pollers = [relay.process.pid, *relay.named("poller", 15)]
+        assert until(lambda: all(relay.system_call(poller) == str(EPOLL_WAIT) for poller in pollers))
         with halted(pollers[number]) as (poller,):
             poller.end_call()
         times.append(seconds_to_end(relay.process))

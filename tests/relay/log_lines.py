@@ -8,7 +8,7 @@ import socket
 import tempfile
 import time
 
-from loopback import WAIT, Relay, echo, in_thread, port_of, read_all, send_and_shut, target, unanswered, unheard
+from loopback import WAIT, Relay, echo, in_thread, port_of, read_all, send_and_shut, target, unanswered, unheard, until
 from monitoring import as_line, folder, read
 from shared import (
     answer_and_read, ask_once, asked, asking, at_once, by_time, drops_in, having, is_closed_soon, is_silent, leave_one_descriptor,
@@ -35,7 +35,7 @@ def marks_its_lines_for_the_journal():
         with tempfile.TemporaryFile("w+") as errors:
             found = os.fstat(errors.fileno())
             variables = {"JOURNAL_STREAM": how.format(found.st_dev, found.st_ino)}
-            taken = Relay(target(echo), errors=errors, log="debug", idle=1, stop_after=1, variables=variables)
+            taken = Relay(target(echo), errors=errors, log="debug", budget=3, stop_after=1, variables=variables)
             Relay(1, errors=errors, listen=f"127.0.0.1:{taken.port}", variables=variables).process.wait(WAIT)
             ask_once(taken)
             assert taken.process.wait(WAIT) == 0
@@ -73,7 +73,7 @@ def says_once_that_clients_wait_for_a_slot():
         for _ in range(many):
             # Each is found by a round of its own.
             clients += asking(relay, 1)
-            assert is_silent(clients[-1], 0.1)
+            assert until(relay.sleeps) and is_silent(clients[-1], 0)
         for client, next_one in zip(clients, clients[1:]):
             client.close()
             assert next_one.recv(1) == b"?"

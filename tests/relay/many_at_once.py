@@ -62,7 +62,7 @@ def serves_all_slots_of_several_pollers():
     clients = [served(relay, 1)[0] for _ in range(256)]
     for freed in (0, 63, 64, 100, 191, 200, 255, 1, 128, 254, 7, 77):
         (waiting,) = asking(relay, 1)
-        assert is_silent(waiting, 0.1)
+        assert until(relay.sleeps) and is_silent(waiting, 0)
         clients[freed].close()
         clients[freed] = waiting
         assert waiting.recv(1) == b"?"

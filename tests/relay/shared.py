@@ -10,7 +10,6 @@ import select
 import socket
 import struct
 import termios
-import time
 
 from loopback import WAIT, Relay, echo, in_thread, port_of, read_all, target, until
 
@@ -161,7 +160,7 @@ def move_much(relay, *clients):
     with relay.stopped():
         for client in clients:
             client.sendall(bytes(MUCH))
-    time.sleep(0.1)
+    assert until(relay.sleeps)
 
 
 def told(*options, **settings):

@@ -152,7 +152,7 @@ def much_moved(both):
     client.sendall(bytes(MUCH))
     both.go()
     read_all_of(end, MUCH)
-    time.sleep(0.1)
+    assert until(both.relay.sleeps)
     both.halt()
     return client, end
 
@@ -227,9 +227,9 @@ def a_poller_beside_a_worker_that_gives_its_slot():
         with relay.stopped():
             client.sendall(bytes(MUCH))
         read_all_of(end, MUCH)
-        # All other pollers end before they wait.
-        assert until(lambda: relay.status("Threads") <= 19 and len(in_call(relay, EPOLL_WAIT)) == 1)
-        with halted(*in_call(relay, EPOLL_WAIT), *relay.named("worker", 16)) as (poller, *workers):
+        # Once all other pollers have ended there are the first, the log's thread and the workers.
+        assert until(lambda: relay.status("Threads") == 18 and in_call(relay, EPOLL_WAIT))
+        with halted(relay.process.pid, *relay.named("worker", 16)) as (poller, *workers):
             client.close()
             end.close()
             poller.go()
