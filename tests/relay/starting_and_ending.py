@@ -160,14 +160,16 @@ def is_replaced_at_another_address():
 
 
 def is_replaced_however_late_it_ends():
-    # The first one is told of the end of its input after three seconds, and listens until then.
+    # The first one is stopped for three seconds, and listens until then.
     with replaceable() as (folder, port, settings, program):
-        late = pathlib.Path(folder, "late")
-        late.write_text(f'#!/bin/sh\n[ "$1" = run ] || exec "{program}" "$@"\n(cat && sleep 3) | "{program}" "$@"\n')
+        late, number = pathlib.Path(folder, "late"), pathlib.Path(folder, "number")
+        late.write_text(f'#!/bin/sh\necho $$ > {number} && exec "{program}" "$@"\n')
         late.chmod(0o755)
         assert replace(folder, settings, late).stdout == f"listening 127.0.0.1:{port}\n"
         with connected(port) as client:
             assert asked(client)
+            os.kill(int(number.read_text()), signal.SIGSTOP)
+            threading.Timer(3, os.kill, (int(number.read_text()), signal.SIGCONT)).start()
             assert replace(folder, settings, program).stdout == f"listening 127.0.0.1:{port}\n" and asked(client)
         end_holder(folder)
         assert until(lambda: not is_open(port))
