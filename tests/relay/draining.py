@@ -11,7 +11,7 @@ import subprocess
 import time
 
 from loopback import TESTS, WAIT, Relay, echo, in_thread, read_all, start, target, until
-from shared import LONGEST, asked, connected, having, is_closed_soon, is_open, left_out, numbers_in
+from shared import LONGEST, asked, connected, fill, is_closed_soon, is_open, left_out, numbers_in
 
 DRAIN = os.path.abspath(f"{TESTS}/../packaging/relayd-drain")
 BUSY = 50
@@ -62,7 +62,7 @@ def a_signal_cuts_none_of_the_connections():
             time.sleep(0.2)
             refused.append(True)
             assert all([it.result(LONGEST) for it in asking])
-            _, log = process.communicate(timeout=WAIT)
+            _, log = process.communicate(timeout=9)
             last = log.splitlines()[-1]
             had = numbers_in(last)
             # Before it was refused, `is_open` connected now and then.
@@ -72,16 +72,20 @@ def a_signal_cuts_none_of_the_connections():
 
 
 def those_that_are_left_are_cut_in_time():
-    # It says how many there are after ten seconds, and how many it cuts after one more. The journal is a socket, too.
+    # It says how many there are after ten seconds, and how many it cuts after one more, also to a journal that is read too late.
     journal, its_errors = socket.socketpair()
-    with its_errors, drained(11, its_errors) as (process, port), connected(port) as client, connected(port) as other:
+    fill(its_errors)
+    its_errors.setblocking(True)
+    with drained(11, its_errors) as (process, port), connected(port) as client, connected(port) as other:
+        its_errors.close()
         assert asked(client) and asked(other)
         begun = time.monotonic()
         process.terminate()
         assert until(lambda: not is_open(port)) and asked(client)
-        assert process.wait(WAIT) == 128 + signal.SIGKILL and time.monotonic() - begun >= 11 and is_gone(process)
-        assert is_closed_soon(client)
-    assert having(read_all(journal).decode().splitlines(), "drain: ") == ["drain: 2 left, cut in 1 s", "drain: 2 cut"]
+        assert is_closed_soon(client, 20) and time.monotonic() - begun >= 11
+        said = in_thread(read_all, journal)
+        assert process.wait(WAIT) == 128 + signal.SIGKILL and is_gone(process)
+        assert {*re.findall(b"drain: .*", said.result(WAIT))} == {b"drain: 2 left, cut in 1 s", b"drain: 2 cut"}
 
 
 def a_relay_outlives_what_ran_it_until_its_last_client():
