@@ -81,7 +81,7 @@ INSTALLED = $(addprefix bin:,$(PROGRAM) packaging/relayd-drain packaging/relayd-
   $(addprefix share/man/man1:man/,relayd.1 relayd-drain.1 relayd-trace.1) share/man/man5:man/relayd.toml.5 \
   $(addprefix $(DOCUMENTS):,$(wildcard docs/*/* *.md LICENSE-*) packaging/copyright) \
   $(addprefix $(DOCUMENTS)/examples:,$(wildcard examples/*) \
-    $(addprefix packaging/,deployment.yaml drain.conf relayd.default sidecar.yaml))
+    $(addprefix packaging/,deployment.yaml drain.conf relayd.default relayd.socket sidecar.yaml))
 # What shells complete, which is made of the program's help.
 COMPLETIONS = $(foreach it,relayd relayd-drain, \
   $(addprefix share/,bash-completion/completions:$(it) zsh/site-functions:_$(it) fish/vendor_completions.d:$(it).fish))

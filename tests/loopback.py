@@ -14,6 +14,7 @@ import shutil
 import signal
 import socket
 import subprocess
+import sys
 import tempfile
 import threading
 import time
@@ -23,6 +24,12 @@ WAIT = 40  # the longest that anything here is waited for, in seconds
 STARTED = []  # the processes of the check in progress
 # The first line of a relay's log.
 STARTED_LINE = re.compile(r"\[INFO  relayd\] relayd \d")
+# Has a program run with a descriptor as its third, and in the variable that names the process.
+PASS = """import os, sys
+os.dup2(int(sys.argv[1]), 3)
+os.set_inheritable(3, True)
+os.environ.setdefault("LISTEN_PID", str(os.getpid()))
+os.execvp(sys.argv[2], sys.argv[2:])"""
 # What a relay at rest records: waits for reports that gave none, and where descriptors are short the tries that follow them.
 AT_REST = re.compile(r"(\d+ \d+ (p\d+ poll 0|p\d+ accept starved|second \d+)\n)+")
 
@@ -88,8 +95,9 @@ class Relay:
     """A relay that forwards to a port, or to this process itself, with these settings beside the two addresses or in their
     place: from a file, or if `typed` on the command line, with options after them; and if there is a `preload`, with the
     library, told by these variables. It records what it does, unless it is to have no thread or descriptor beyond those of a
-    relay that does not. It begins with these standard streams closed, and inherits these descriptors and variables. A tool
-    that it is to run under stands before it, with its options."""
+    relay that does not. It begins with these standard streams closed, and inherits these descriptors and variables. What is
+    `passed` it has as descriptor 3, and is told so as by systemd (sd_listen_fds(3)). A tool that it is to run under stands
+    before it, with its options."""
 
     program = None
     library = None
@@ -99,7 +107,7 @@ class Relay:
 
     def __init__(
         self, port=None, preload=None, errors=subprocess.PIPE, options=(), typed=False, descriptors=None, stdin=None,
-        recorded=True, closed=(), inherited=(), variables=None, under=(), **settings
+        recorded=True, closed=(), inherited=(), variables=None, under=(), passed=None, **settings
     ):
         if port is None:
             self.listener = socket.create_server(("127.0.0.1", 0))
@@ -111,6 +119,9 @@ class Relay:
         self.rests = False  # whether it was ended when nothing was left to do
         self.is_over = False  # whether it has ended by itself
         self.told = []  # its log, where that is known to be whole
+        if passed is not None:
+            inherited, variables = [passed.fileno()], {"LISTEN_FDS": "1", **(variables or {})}
+            under = [sys.executable, "-c", PASS, str(passed.fileno()), *under]
         words = ["forward", settings["listen"], settings["target"]]
         for key in settings.keys() - {"listen", "target"}:
             words += ["--" + key.replace("_", "-"), str(settings[key]).lower()]

@@ -150,7 +150,9 @@ def is_replaced_at_another_address():
         with connected(port) as client:
             before, other = names(), unused_port()
             failed = at(f"127.0.0.1:{port_of(taken)}")
-            assert failed.returncode == 1 and "relayd: listen: failed\n" in failed.stderr and names() == before
+            assert failed.returncode == 1 and ": Address already in use" in failed.stderr and names() == before
+            pathlib.Path(settings).write_text(text.replace(f"127.0.0.1:{port}", "192.0.2.1:1") + "slots = 0\n")
+            assert replace(folder, settings, program).returncode == 1 and names() == before
             assert asked(client) and is_open(port)
             assert at(f"0.0.0.0:{other}").stdout == f"listening 0.0.0.0:{other}\n"
             assert until(lambda: not is_open(port)) and is_open(other) and asked(client) and len(names()) == 3
@@ -175,23 +177,16 @@ def is_replaced_however_late_it_ends():
         assert until(lambda: not is_open(port))
 
 
-@by_time
 def is_replaced_under_load():
     # Twice, beside clients that ask one after the other, each time on a connection of its own, and clients that keep theirs. No
-    # client that was accepted is cut: each has its line `done`.
+    # client is refused, and none is cut: each has its line `done`.
     counts, is_over = collections.Counter(), threading.Event()
 
     def come_and_go():
         while not is_over.is_set():
-            try:
-                with connected(port) as client:
-                    assert asked(client, b"?" * 100)
-                counts["answered"] += 1
-            except ConnectionRefusedError:
-                time.sleep(0.002)
-            except (ConnectionResetError, BrokenPipeError):
-                # It came between two listeners, and was reset in the backlog.
-                counts["reset"] += 1
+            with connected(port) as client:
+                assert asked(client, b"?" * 100)
+            counts["answered"] += 1
 
     def stay():
         with connected(port) as client:
@@ -217,7 +212,7 @@ def is_replaced_under_load():
         assert not any(each.result(WAIT) for each in load)
         end_holder(folder)
         assert until(lambda: not is_open(port) and lines("] open ") == lines("] done "))
-        assert lines("] fail ") == lines("] drop ") == [0] * 3 and counts["answered"] > 100 and counts["reset"] <= 8
+        assert lines("] fail ") == lines("] drop ") == [0] * 3 and counts["answered"] > 100
 
 
 # refuses start_is_not_logged: nothing is logged when a relay begins to serve

@@ -29,7 +29,7 @@ fn fronts_to(
 ) -> Result<Fronts<'_>, ServerFault> {
     let text = b"listen = \"127.0.0.1:0\"\ntarget = \"127.0.0.1:1\"\n";
     let settings = parse(rt.alloc(), text).map_err(|_| ServerFault::NoMemory)?;
-    let bound = bind(rt, &settings)?;
+    let bound = bind(rt, &settings, None)?;
     let address = bound.text();
     let forwarding = Forwarding {
         target,

@@ -170,7 +170,7 @@ where
     ensures done { IfOk result (λ status. status ≡ 0) }
     ensures fault { IfErr result (λ fault. status_of fault ≡ 1) }
 {
-    let settings = config::load(rt, log, path)?;
+    let settings = config::load(rt, log, path, None)?;
     look_at_addresses(log, &settings)?;
     foresee(rt, log, &settings)?;
     print(

@@ -12,22 +12,29 @@ use settings::{Key, LogLevel, Settings, SettingsFault};
 use std::alloc::Global;
 use std::fs::{self, File};
 use std::io::Read;
+use std::net::SocketAddrV4;
 use std::rt::Files;
 
 /// The most bytes of a settings file.
 const MAX_CONFIG_BYTES: usize = 65_536;
 
-/// The settings of the file at a path. The file is closed in each case. Refuses with `Read` if it cannot be opened or
-/// read, and otherwise as [`read`] does. Logs the cause: what the system or the parser says.
+/// The settings of the file at a path. The file is closed in each case. If a socket at an address was passed, the file
+/// may leave out where to listen. Refuses with `Read` if it cannot be opened or read, and otherwise as [`read`] does.
+/// Logs the cause: what the system or the parser says.
 pub fn load<R: AllocGlobal + Files, L: Log>(
     rt: &R,
     log: &L,
     path: &str,
+    passed: Option<SocketAddrV4>,
 ) -> Result<Settings, ConfigFault> {
     let name = FileName("config", path);
     match File::open(rt, path) {
         Ok(inner) => {
-            let answer = read(log, rt.alloc(), path, &mut Stream { name, inner, log });
+            let mut file = Stream { name, inner, log };
+            let answer = match passed {
+                Some(address) => read_beside(log, rt.alloc(), path, &mut file, address),
+                None => read(log, rt.alloc(), path, &mut file),
+            };
             if matches!(&answer, Err(ConfigFault::Long)) {
                 log_length(rt, log, path, &name);
             }
@@ -57,6 +64,25 @@ fn log_length(rt: &impl Files, log: &impl Log, path: &str, name: &FileName<'_>) 
             &format_args!("there are more than {MAX_CONFIG_BYTES} bytes"),
         ),
     }
+}
+
+/// As [`read`], but if the file leaves out where to listen, a line with this address stands after its text.
+fn read_beside<F: Read, L: Log>(
+    log: &L,
+    alloc: Global,
+    path: &str,
+    file: &mut F,
+    address: SocketAddrV4,
+) -> Result<Settings, ConfigFault> {
+    let text = read_whole(alloc, file)?;
+    let parsed = settings::parse(alloc, text.as_slice());
+    let line = match &parsed {
+        Err(SettingsFault::Missing(Key::Listen)) => {
+            format!(in alloc; "\nlisten = \"{address}\"\n")?
+        }
+        _ => String::new(alloc),
+    };
+    read(log, alloc, path, &mut text.as_slice().chain(line.as_bytes()))
 }
 
 /// The settings of a file, from all of its bytes. Refuses with `Read` if the reader gives an error, with `Long` if

@@ -6,6 +6,7 @@ use crate::config;
 use crate::extras::{Extras, extras_of};
 use crate::faults::{DONE, ProgramFault};
 use crate::logging::{self, Until, direct_log, starting_filter};
+use crate::passed::passed_socket;
 use crate::recording_file::{RecordFiles, create, find_place};
 use crate::starting::{
     log_start, look_at_addresses, prepare, print_listening, warn_of_short_time, warn_of_silence,
@@ -18,13 +19,13 @@ use common::Gate;
 use log::{Log, Logged};
 use settings::{LogLevel, Settings};
 use sizes::ServerFault;
-use sockets::{Bound, Stop, bind};
+use sockets::{Bound, Passed, Stop, bind};
 use statistics::Statistics;
 use std::alloc::AllocGlobal;
 use std::cell::Cell;
 use std::env::Env;
 use std::io::{Eprint, Stdin, Stdout};
-use std::net::{Net, SocketAddr};
+use std::net::{Net, SocketAddr, SocketAddrV4};
 use std::os::fd::AsRawFd;
 use std::rt::Files;
 use std::sync::atomic::AtomicBool;
@@ -69,18 +70,20 @@ where
     }
 }
 
-/// Looks at what can be found before anything listens, listens, looks at what the settings need, and makes the file to
-/// record into.
+/// Takes a socket with which the program was started. Looks at what can be found before anything listens, listens,
+/// looks at what the settings need, and makes the file to record into.
 fn given_to<R>(rt: &R, log: &impl Log, relay: &Relay<'_>) -> Result<Given<R>, ProgramFault>
 where
     R: AllocGlobal + Env + Files + Eprint + Net + Copy + Drop,
     R::File: AsRawFd,
 {
+    // First: a file that is opened before may get the number of a socket that is not there.
+    let passed = passed_socket(rt, log)?;
     let extras = extras_of(log, relay.extras)?;
-    let settings = settings_of(rt, log, &relay.settings)?;
+    let settings = settings_of(rt, log, &relay.settings, address_of(&passed))?;
     warn_of_silence(log, settings.log, &extras, relay.stats_file.is_some());
     let log = direct_log(rt, starting_filter(settings.log));
-    make(rt, &log, relay, settings, extras)
+    make(rt, &log, relay, settings, extras, passed)
 }
 
 fn make<R>(
@@ -89,6 +92,7 @@ fn make<R>(
     relay: &Relay<'_>,
     settings: Settings,
     extras: Extras,
+    passed: Option<Passed>,
 ) -> Result<Given<R>, ProgramFault>
 where
     R: AllocGlobal + Files + Net + Copy + Drop,
@@ -98,7 +102,7 @@ where
     look_at_addresses(log, &settings)?;
     let in_parts = extras.record_size.is_some();
     let place = find_place(rt, log, relay.record, in_parts)?;
-    match listen(rt, log, relay, settings, in_parts) {
+    match listen(rt, log, relay, settings, in_parts, passed) {
         Ok((settings, bound, stats_file)) => {
             match create(rt, log, relay.record, place, in_parts) {
                 Ok(files) => Ok(Given {
@@ -125,11 +129,12 @@ fn listen<R: AllocGlobal + Files + Net + Copy + Drop>(
     relay: &Relay<'_>,
     settings: Settings,
     in_parts: bool,
+    passed: Option<Passed>,
 ) -> Result<(Settings, Bound, Option<StatsFile>), ProgramFault> {
     let (has_record, has_stats) = (relay.record.is_some(), relay.stats_file.is_some());
     let more = u64::from(has_record) + u64::from(in_parts) + u64::from(has_stats);
     let stats_file = find_file(rt, log, relay.stats_file)?;
-    let fault = match bind(log, &settings) {
+    let fault = match bind(log, &settings, passed) {
         Ok(bound) => match prepare(rt, log, settings, more) {
             Ok(settings) => return Ok((settings, bound, stats_file)),
             Err(fault) => fault,
@@ -140,14 +145,22 @@ fn listen<R: AllocGlobal + Files + Net + Copy + Drop>(
     Err(fault)
 }
 
+fn address_of(passed: &Option<Passed>) -> Option<SocketAddrV4> {
+    match passed {
+        Some(passed) => Some(passed.address()),
+        None => None,
+    }
+}
+
 fn settings_of<R: AllocGlobal + Files, L: Log>(
     rt: &R,
     log: &L,
     source: &Source<'_>,
+    passed: Option<SocketAddrV4>,
 ) -> Result<Settings, ProgramFault> {
     let settings = match source {
         Source::File(path, level) => {
-            let settings = config::load(rt, log, path)?;
+            let settings = config::load(rt, log, path, passed)?;
             config::at_level(log, rt.alloc(), settings, *level)
         }
         Source::Arguments(text) => config::parse_arguments(log, rt.alloc(), text.as_bytes()),

@@ -1,5 +1,5 @@
 -- Where a server listens, and what is reported.
-use Rattle.std.specs.{Prelude.{◌≡◌, ◌≢◌, ◌⊎◌, ℕ, pos, ◌*◌, max, min, Bool, true, false, ◌||◌, if◌then◌else◌, List, [], map, OnOk, IsTrue, ◌↔◌, Option, Some, None, Result, Ok, Err}, IoError.{error_kind, raw_os_error}, declared.{io.{Error.Error, ErrorKind.TheVariants.Interrupted}, net.{SocketAddr.{SocketAddr, TheVariants.{V4, V6}}, SocketAddrV4.SocketAddrV4}}, Result.result_ok, Net.{Addr.{IsV4And, ipv4_octets}, Socket.{socket_ip, IsPlainSocket}}}
+use Rattle.std.specs.{Prelude.{◌≡◌, ◌≢◌, ◌⊎◌, ℕ, pos, ◌*◌, max, min, Bool, true, false, ◌||◌, if◌then◌else◌, List, [], map, OnOk, IsTrue, ◌↔◌, Option, Some, None, Result, Ok, Err}, IoError.{error_kind, raw_os_error}, declared.{io.{Error.Error, ErrorKind.TheVariants.Interrupted}, net.{SocketAddr.{SocketAddr, TheVariants.{V4, V6}}, SocketAddrV4.SocketAddrV4}}, Result.result_ok, Net.{Addr.{IsV4And, ipv4_octets}, Socket.{socket_ip, v4_ip, v4_port, IsPlainSocket}}}
 use Rattle.token.specs.{Names.EndName, Numbers.name_of, declared.name.Name.{Name, TheVariants.{Listener, Waker, End}}}
 use Rattle.readiness.specs.Words.{WordName, word_of}
 use Rattle.settings.specs.Addresses.{SocketAddress}
@@ -101,6 +101,36 @@ pub record Listens (L : Type 0) : Type 0 where
 -- it is this IPv4 address and port
 abbrev pub IsAt : SocketAddress → SocketAddr → Type 0
 IsAt (octets, port) address = IsV4And (socket_ip address) (λ ip. ipv4_octets ip ≡ octets) × IsPlainSocket address port
+
+-- a socket that was passed to the program, and its address
+pub record Given (L : Type 0) : Type 0 where
+  pub listener : L
+  pub address : SocketAddrV4
+
+-- A passed socket is of TCP, is at this address, and listens; and its calls were made to return at once
+pub data Found : Type 0 where
+  OfTcp : Found
+  At : SocketAddr → Found
+  Listened : Found
+  Prompt : Found
+
+-- a socket at this address is where one was asked for; port 0 asks for any
+abbrev pub Agrees : SocketAddress → SocketAddrV4 → Type 0
+Agrees listen address = (ipv4_octets (v4_ip address) ≡ listen.0) × ((listen.1 ≡ 0) ⊎ (v4_port address ≡ listen.1))
+
+module _ {L : Type 0} where
+  -- all of that was found of a passed socket, and its address is of IPv4
+  pub record AreAllFound (found : Found → L → Type 0) (given : Given L) : Type 0 where
+    pub of_tcp : found OfTcp given.listener
+    pub here : found (At (V4 given.address)) given.listener
+    pub listened : found Listened given.listener
+    pub prompt : found Prompt given.listener
+
+  -- this passed socket is what listens, where it was asked for
+  pub record IsPassed (given : Given L) (listen : SocketAddress) (bound : Listens L) : Type 0 where
+    pub listener : bound.listener ≡ given.listener
+    pub address : bound.address ≡ V4 given.address
+    pub agrees : Agrees listen given.address
 
 -- an address, if it is known and of IPv4
 abbrev pub v4_of : Option SocketAddr → Option SocketAddrV4

@@ -1,14 +1,15 @@
 //! The listening socket.
-ghost use Rattle.std.specs.{Prelude.{◌≡◌, ◌↔◌, ◌<◌, IfOk, IfErr, IsTrue}, IoError.error_kind, Net.Socket.socket_port, declared.io.ErrorKind.TheVariants.PermissionDenied};
-ghost use Rattle.sockets.specs.Fronts.{IsAt};
+ghost use Rattle.std.specs.{Prelude.{◌≡◌, ◌↔◌, ◌<◌, IfOk, IfErr, IfSome, IsTrue}, IoError.error_kind, Net.Socket.socket_port, declared.io.ErrorKind.TheVariants.PermissionDenied};
+ghost use Rattle.sockets.specs.Fronts.{Agrees, IsAt, IsPassed};
 
+use crate::passed::Passed;
 use log::{Log, error};
 use mio::net::TcpListener;
-use settings::Settings;
+use settings::{Address, Settings};
 use sizes::ServerFault;
 use std::io;
 use std::marker::Model;
-use std::net::{Net, SocketAddr};
+use std::net::{Net, SocketAddr, SocketAddrV4};
 
 /// The first port that needs no privilege, if the machine has it as usual.
 const FIRST_FREE: u16 = 1_024;
@@ -38,15 +39,58 @@ impl<L> Bound<L> {
     }
 }
 
-/// Listens on the settings' address, with the longest backlog that the system allows. This works right after another
-/// server there has ended (SO_REUSEADDR of socket(7)).
+/// The socket on which a relay with these settings listens.
 ///
-/// Refuses with `Listen` if the system refuses. The cause was then logged, at level error.
-pub fn bind<R: Net + Log>(rt: &R, settings: &Settings) -> Result<Bound, ServerFault>
+/// One that was passed has to be at the settings' address; port 0 there agrees with any. Without one the relay listens
+/// by itself, with the longest backlog that the system allows. This works right after another server there has ended
+/// (SO_REUSEADDR of socket(7)).
+///
+/// Refuses with `Listen` if the passed one is elsewhere, or if the system refuses. The cause was then logged, at level
+/// error.
+pub fn bind<R: Net + Log>(
+    rt: &R,
+    settings: &Settings,
+    passed: Option<Passed>,
+) -> Result<Bound, ServerFault>
     ensures asked { IfOk result (λ bound. IsAt settings.now.listen bound.asked) }
+    ensures passed { IfSome passed (λ given. IfOk result (λ bound. IsPassed given settings.now.listen bound)) }
     ensures refused { IfErr result (λ fault. fault ≡ ServerFault.Listen) }
 {
-    let address = SocketAddr::from(settings.listen);
+    match passed {
+        Some(passed) => adopt(rt, settings.listen, passed),
+        None => listen_at(rt, SocketAddr::from(settings.listen)),
+    }
+}
+
+/// A passed socket, if it is where the settings ask for one.
+fn adopt<R: Log>(rt: &R, listen: Address, passed: Passed) -> Result<Bound, ServerFault>
+    ensures asked { IfOk result (λ bound. IsAt listen bound.asked) }
+    ensures passed { IfOk result (λ bound. IsPassed passed listen bound) }
+    ensures refused { IfErr result (λ fault. fault ≡ ServerFault.Listen) }
+{
+    let (asked, address) = (SocketAddr::from(listen), passed.address);
+    if !agrees(listen, address) {
+        error!(rt; target: "relayd", "listen: {asked}: the socket that was passed listens at {address}");
+        return Err(ServerFault::Listen);
+    }
+    Ok(Bound {
+        listener: passed.listener,
+        asked,
+        address: SocketAddr::V4(address),
+    })
+}
+
+/// Whether a socket at an address is where the settings ask for one.
+fn agrees(listen: Address, address: SocketAddrV4) -> bool
+    ensures { IsTrue result ↔ Agrees listen address }
+{
+    address.ip().octets() == listen.0 && (listen.1 == 0 || address.port() == listen.1)
+}
+
+fn listen_at<R: Net + Log>(rt: &R, address: SocketAddr) -> Result<Bound, ServerFault>
+    ensures asked { IfOk result (λ bound. bound.asked ≡ address) }
+    ensures refused { IfErr result (λ fault. fault ≡ ServerFault.Listen) }
+{
     match listen(rt, address) {
         Ok(bound) => Ok(bound),
         Err(error) => {

@@ -1,6 +1,6 @@
-//! The front over the system's sockets: a listener ([`bind`]), a connection to the target for each client, and
-//! epoll(7) ([`open_all`]). All sockets are edge-triggered, and nothing waits except
-//! [`Front::poll`](common::Front::poll).
+//! The front over the system's sockets: a listener ([`bind`]), which may be one that the program was started with
+//! ([`take_passed`]); a connection to the target for each client; and epoll(7) ([`open_all`]). All sockets are
+//! edge-triggered, and nothing waits except [`Front::poll`](common::Front::poll).
 //!
 //! - [`Sockets`] is the front of one poller, and [`Forwarding`] says where it connects clients. All fronts share one
 //!   listening socket ([`Bound`]), and each leaves clients to fronts that have fewer (`loads`). [`Wakers`] wakes the
@@ -14,7 +14,7 @@
 //! (`names_reading`). Such an event sets the word of the end that its number names, if any (`tell`: `heard`). A socket
 //! is registered under its token's number, with that token's word (`watch`: `registered`). A wait for reports is made
 //! once and for as long as is asked for (`Waiter`: `asked`). `bind` asks the system to listen at the settings' address
-//! and no other (`listen`).
+//! and no other (`listen`). A socket that was passed is looked at before it is used (`look_at`).
 #![tactic(auto)]
 
 mod bound;
@@ -24,6 +24,7 @@ mod forwarding;
 mod limits;
 mod loads;
 mod options;
+mod passed;
 mod poll;
 mod socket;
 mod stop;
@@ -33,6 +34,7 @@ mod wire;
 
 pub use bound::{Bound, bind};
 pub use forwarding::{Dial, Forwarding, Patience};
+pub use passed::{Passed, take_passed};
 pub use poll::{Sockets, Wakers, open_all};
 pub use socket::Socket;
 pub use stop::Stop;

@@ -3,7 +3,7 @@ ghost use Rattle.libc.specs.Net.{SockOption};
 
 use crate::limits::PROBES;
 use libc::net as system;
-use mio::net::TcpStream;
+use mio::net::{TcpListener, TcpStream};
 use std::io;
 use std::os::fd::{AsRawFd, RawFd};
 
@@ -37,6 +37,24 @@ fn set(socket: RawFd, level: i32, option: i32, value: u32) -> io::Result<()>
     let mut bytes = [0; 16];
     bytes[..4].copy_from_slice(&value.to_ne_bytes());
     let status = unsafe { system::setsockopt(socket, level, option, &bytes, 4) };
+    if status < 0 {
+        return Err(io::Error::from_raw_os_error(os::errno()));
+    }
+    Ok(())
+}
+
+/// Fails if a socket has no TCP_NODELAY, which each TCP socket has (getsockopt(2)).
+pub(crate) fn look_for_tcp(socket: &TcpListener) -> io::Result<()> {
+    let (socket, mut bytes, mut length) = (socket.as_raw_fd(), [0; 16], 16);
+    let status = unsafe {
+        system::getsockopt(
+            socket,
+            system::IPPROTO_TCP,
+            system::TCP_NODELAY,
+            &mut bytes,
+            &mut length,
+        )
+    };
     if status < 0 {
         return Err(io::Error::from_raw_os_error(os::errno()));
     }
