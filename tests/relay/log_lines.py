@@ -24,7 +24,7 @@ def logs_as_is_set():
     assert told("--log", "debug", log="off")[1:] == told("--log", "info", log="debug") == served
     assert told("--log", "off", log="debug") == told(log="warn") == []
     assert told("--stats", "1", log="off") == ["[WARN  relayd] stats: does nothing, since log is off"]
-    assert told("--stats", "86400", log="error") == [f"[INFO  relayd] stats open=0 slots=1024 {counted}"]
+    assert told("--stats", "86400", log="error") == [f"[INFO  relayd] stats open=0 slots=1024 {counted} waited=0 lost=0"]
 
 
 # refuses line_without_its_priority: a line in the journal of systemd has no priority
@@ -188,7 +188,7 @@ def statistics_add_up():
         errors.seek(0)
         lines, monitored = errors.read().splitlines(), as_line(read(path))
     each = [numbers_in(line) for line in having(lines, "[INFO  relayd] stats ")]
-    names = "open slots opened done failed dropped client target refused reset timedout idle up down".split()
+    names = "open slots opened done failed dropped client target refused reset timedout idle up down waited lost".split()
     numbers = " ".join(f"{name}={each[-1][name]}" for name in names)
     assert having(lines, "] stats ")[-1] == f"[INFO  relayd] stats {numbers}"
     wanted = {"open": 0, "slots": 256, "dropped": drops_in(lines)}
@@ -199,9 +199,11 @@ def statistics_add_up():
     over = [numbers_in(line) for line in having(lines, "] done s=") + having(lines, "] gone s=")]
     wanted |= {way: sum(line[way] for line in over) for way in ("up", "down")}
     last = numbers_in(lines[-1])
-    assert each[-1] == last == wanted == monitored and last["opened"] == 1000
+    # The drop may have kept it from accepting for a second.
+    wanted |= {"waited": last["waited"], "lost": 0}
+    assert last["waited"] <= 2 and each[-1] == last == wanted == monitored and last["opened"] == 1000
     assert len(having(lines, "] gone ")) == last["failed"] + 1
-    assert all(last[name] for name in last if name not in ("open", "timedout"))
+    assert all(last[name] for name in last if name not in ("open", "timedout", "waited", "lost"))
     assert all(one["opened"] == one["open"] + one["done"] + one["failed"] for one in each)
     assert 2 <= len(each) <= time.monotonic() - begun + 1
 

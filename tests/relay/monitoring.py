@@ -5,27 +5,33 @@ import contextlib
 import os
 import pathlib
 import re
+import resource
 import tempfile
 import threading
 import time
 
 from loopback import WAIT, Relay, echo, in_thread, target, until
-from shared import ask_once, by_time, having, numbers_in, reset, served
+from shared import answers_soon, ask_once, asking, by_time, having, numbers_in, reset, served
 
 KINDS = ["reset", "pipe", "aborted", "refused", "notconnected", "timedout", "zero", "other"]
 FAILED = [f'{{side="{side}",kind="{kind}"}}' for side in ("client", "target") for kind in KINDS]
+LABELS = {"connections_failed_total": FAILED, "build_info": ['{version="0.1.0"}']}
 # The metrics in order: what follows `relayd_` in the name, the type, and what it is.
 METRICS = """\
 connections_open gauge Connections that are open.
 connections_open_max gauge The most connections that were open at once.
 slots gauge How many connections can be open at once.
 slots_full_seconds_total counter Seconds with all slots taken.
+accept_waiting_seconds_total counter Seconds in which clients waited for want of descriptors or memory.
 connections_opened_total counter Connections that were opened.
 connections_done_total counter Connections that ended after both ends of input were passed on.
 connections_idle_total counter Connections that were ended by the idle limit.
 clients_dropped_total counter Clients that were accepted, and closed unopened.
 up_bytes_total counter Bytes that were written to targets.
 down_bytes_total counter Bytes that were written to clients.
+records_lost_total counter Records that the recording lacks.
+start_time_seconds gauge When the relay began, in seconds since 1970.
+build_info gauge The version of the relay.
 connections_failed_total counter Connections that failed by a call on a socket, by its side and how."""
 
 
@@ -35,7 +41,7 @@ def text_of(series):
     for metric in METRICS.splitlines():
         name, kind, what = metric.split(" ", 2)
         text += f"# HELP relayd_{name} {what}\n# TYPE relayd_{name} {kind}\n"
-        for labels in FAILED if name == "connections_failed_total" else [""]:
+        for labels in LABELS.get(name, [""]):
             text += f"relayd_{name}{labels} {series[f'relayd_{name}{labels}']}\n"
     return text
 
@@ -55,6 +61,7 @@ def as_line(series):
     words = {word: series[f"relayd_{name}"] for word, name in {
         "open": "connections_open", "slots": "slots", "opened": "connections_opened_total", "done": "connections_done_total",
         "dropped": "clients_dropped_total", "idle": "connections_idle_total", "up": "up_bytes_total", "down": "down_bytes_total",
+        "waited": "accept_waiting_seconds_total", "lost": "records_lost_total",
     }.items()}
     failed = collections.Counter()
     for side in "client", "target":
@@ -82,7 +89,7 @@ def reset_once(connection):
 # refuses half_written_file: the file is written where it is read, so that a part of it is seen
 @by_time
 def a_monitor_finds_the_counts_in_a_file():
-    seen, ended = [], threading.Event()
+    seen, ended, begun = [], threading.Event(), int(time.time())
 
     def watch():
         while not ended.is_set():
@@ -115,14 +122,16 @@ def a_monitor_finds_the_counts_in_a_file():
         kinds = {kind: last[f'relayd_connections_failed_total{{side="{side}",kind="{kind}"}}'] for kind in KINDS}
         assert kinds == dict.fromkeys(KINDS, 0) | {"reset": 1}, kinds
     assert last["relayd_connections_open"] == 0 and last["relayd_connections_open_max"] == 3
-    assert 2 <= last["relayd_slots_full_seconds_total"] <= 4
+    assert 2 <= last["relayd_slots_full_seconds_total"] <= 4 and last["relayd_accept_waiting_seconds_total"] == 0
+    assert begun <= last["relayd_start_time_seconds"] <= begun + 3 and last[f"relayd_build_info{LABELS['build_info'][0]}"] == 1
     assert len(seen) > 100 and all(as_line(one) in [as_line(seen[0]), *told] for one in seen)
     assert {one["relayd_connections_open"] for one in seen} >= {0, 3}
 
 
 def those_over_0(path):
-    """The numbers of such a file that are not 0, without the first word of their names."""
-    return {name.partition("_")[2]: number for name, number in read(path).items() if number}
+    """The numbers of what such a file counts that are not 0, without the first word of their names."""
+    counted = {it: number for it, number in read(path).items() if number and not re.match("relayd_(start|build)", it)}
+    return {name.partition("_")[2]: number for name, number in counted.items()}
 
 
 # refuses file_of_another_interval: without --stats the file is replaced once in another time than 15 seconds
@@ -195,3 +204,26 @@ def goes_on_without_its_file():
         assert having(relay.ended(), "] stats-file: ") == [] and read(path)["relayd_connections_done_total"] == 3
     cause = "No such file or directory (os error 2); it is tried again each time"
     assert warning == f"[WARN  relayd] stats-file: {path}: {cause}\n"
+
+
+# refuses starved_is_not_counted: the seconds in which a client waits for want of a descriptor are not counted
+@by_time
+def counts_the_seconds_in_which_clients_wait():
+    # The line of the log says so at once; the file, for which there is no descriptor, once there is one again.
+    with folder() as (_, path):
+        relay = Relay(target(echo), options=["--stats", "1", "--stats-file", path], workers=1)
+        early = served(relay, 2)
+        assert until(lambda: os.path.exists(path))
+        relay.limit(resource.RLIMIT_NOFILE, max(relay.descriptors()) + 1)
+        waiting = asking(relay, 2)
+        time.sleep(4.5)
+        relay.limit(resource.RLIMIT_NOFILE, None)
+        assert all([answers_soon(client) for client in waiting])
+        assert until(lambda: read(path)["relayd_connections_open"] == 4)
+        time.sleep(2.5)
+        last = read(path)
+        for client in early + waiting:
+            client.close()
+        waits = [numbers_in(line)["waited"] for line in having(relay.end(), "] stats ")]
+    assert waits == sorted(waits) and 3 <= last["relayd_accept_waiting_seconds_total"] == waits[-1] <= 6, waits
+    assert waits.count(waits[-1]) >= 2 and {1, 2, 3} <= {*waits}

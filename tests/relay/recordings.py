@@ -10,7 +10,7 @@ import threading
 import time
 
 from loopback import WAIT, Relay, echo, in_thread, read_all, replay, send_and_shut, target, until
-from shared import LONGEST, ask_once, asked, at_once, by_time, having, line_of, needs, reset, told
+from shared import LONGEST, ask_once, asked, at_once, by_time, having, line_of, needs, numbers_in, reset, told
 from tracing import halted
 
 FULL = "[WARN  relayd] record: records came faster than they were written, so "
@@ -126,11 +126,13 @@ def keeps_the_end_of_what_it_did_in_two_parts():
 
 # refuses gap_ends_the_recording: a recording of a bounded size ends where records are lost
 # refuses gap_is_not_written: where records are lost, no `full` is written
+# refuses lost_records_are_not_counted: the statistics do not say how many records a recording lacks
 @needs("ptrace")
 def goes_on_behind_a_gap():
     with tempfile.TemporaryDirectory() as folder:
         path = pathlib.Path(folder, "relay.record")
-        relay = Relay(target(echo), options=("--record", path, "--record-size", "100000000"), log="warn", slots=8, stop_after=14)
+        options = "--record", path, "--record-size", "100000000", "--stats", "86400"
+        relay = Relay(target(echo), options=options, log="warn", slots=8, stop_after=14)
         early = [relay.connect() for _ in range(4)]
         assert all(map(asked, early))
         with halted(*relay.named("record")):
@@ -152,7 +154,8 @@ def goes_on_behind_a_gap():
             ask_once(relay)
         for client in early:
             client.close()
-        assert relay.ended() == [] and len(os.listdir(folder)) == 2
+        (counted,) = relay.ended()
+        assert numbers_in(counted)["lost"] > 0 and len(os.listdir(folder)) == 2
         texts = [pathlib.Path(f"{path}{end}").read_text() for end in (".old", "")]
         last, first = texts[0].splitlines()[-1].split(), texts[1].partition("\n")[0]
         assert last[2] == "full" and first.endswith(f" from={last[1]}") and texts[1].endswith(" end\n")

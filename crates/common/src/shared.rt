@@ -67,23 +67,36 @@ impl Fullness {
     }
 }
 
-/// A front whose threads may count events. Every front implements this trait, which leaves open what `counted` means:
-/// over any front, a proof has such a fact only from a call that was made. Of a given front the fact says nothing.
+/// A front whose threads may count events. Every front implements this trait, which leaves open what `counted` and
+/// `starved` mean: over any front, a proof has such a fact only from a call that was made. Of a given front the fact
+/// says nothing.
 pub trait Counting: Front {
     ghost use Rattle.std.specs.Prelude.{ℕ};
     ghost use Rattle.statistics.specs.declared.event.Event.{Event};
 
     ghost counted: { ℕ → Event → Type 0 } = { λ _ _. Unit {0} };
 
+    ghost starved: { Type 0 } = { Unit {0} };
+
     /// Counts the event, if the server has statistics.
     fn count(statistics: Option<&Statistics>, slot: usize, event: Event)
         ensures { counted slot event };
+
+    /// Notes that accept(2) lacked descriptors or memory, if the server has statistics.
+    fn starve(statistics: Option<&Statistics>)
+        ensures { starved };
 }
 
 impl<F: Front> Counting for F {
     fn count(statistics: Option<&Statistics>, slot: usize, event: Event) {
         if let Some(statistics) = statistics {
             statistics.count(slot, event);
+        }
+    }
+
+    fn starve(statistics: Option<&Statistics>) {
+        if let Some(statistics) = statistics {
+            statistics.starve();
         }
     }
 }
@@ -94,6 +107,13 @@ impl<F: Front + Counting, A> Shared<F, A> {
         ensures { F.counted slot event }
     {
         F::count(self.statistics.as_deref(), slot, event);
+    }
+
+    /// Notes that accept(2) lacked descriptors or memory.
+    pub fn starve(&self)
+        ensures { F.starved }
+    {
+        F::starve(self.statistics.as_deref());
     }
 }
 

@@ -20,13 +20,18 @@ static EVENTS: [Event; 5] = [
     Event::Moved { up: 1, down: 2 },
 ];
 
-/// Whether the sums over two slots are twice these events' counts, and both slots were taken at one of two looks.
+/// Whether the sums over two slots are twice these events' counts, and both slots were taken at one of two looks, and
+/// clients waited before the other.
 fn are_summed(alloc: Global) -> Result<bool, AllocError> {
     let statistics = Statistics::new(alloc, 2)?;
     for slot in 0..2 {
         for event in EVENTS {
             statistics.count(slot, event);
         }
+        if slot == 0 {
+            statistics.starve();
+        }
+        statistics.lose();
         statistics.look();
     }
     let sums = statistics.totals();
@@ -34,6 +39,7 @@ fn are_summed(alloc: Global) -> Result<bool, AllocError> {
         (sums.slots, sums.live, sums.sums.at(Count::Done)) == (2, 2, 2)
             && (sums.sums.at(Count::Up), sums.sums.at(Count::Down)) == (8_589_934_594, 18)
             && (sums.levels.most, sums.levels.full_seconds) == (2, 1)
+            && (sums.levels.waiting_seconds, sums.levels.lost) == (1, 2)
             && are_settled(alloc)?,
     )
 }
@@ -69,6 +75,7 @@ fn are_settled(alloc: Global) -> Result<bool, AllocError> {
 // refuses two_slots_in_one_place: two slots are counted in one place
 // refuses most_falls_with_what_is_open: the most that were open falls when one ends
 // refuses second_without_all_slots: a second is added though a slot is free
+// refuses second_without_waiting: a second is added though accept(2) has lacked nothing since the last look
 // refuses changing_place_is_read_once: a place that changes meanwhile is not read again
 #[test]
 fn statistics_of_each_slot(rt: HostRuntime) -> Result<(), Fail> {

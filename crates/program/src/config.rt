@@ -82,7 +82,12 @@ fn read_beside<F: Read, L: Log>(
         }
         _ => String::new(alloc),
     };
-    read(log, alloc, path, &mut text.as_slice().chain(line.as_bytes()))
+    read(
+        log,
+        alloc,
+        path,
+        &mut text.as_slice().chain(line.as_bytes()),
+    )
 }
 
 /// The settings of a file, from all of its bytes. Refuses with `Read` if the reader gives an error, with `Long` if

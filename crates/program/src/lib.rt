@@ -6,7 +6,8 @@
 //! serves with ([`Given`]): `passed` finds a socket that the program was started with, [`config`] reads its settings,
 //! `extras` the other options, and `starting` looks at what these need. [`Beside`] starts and ends what runs beside the
 //! server: [`logging`] has the relay's log, `telling` its statistics, which `stats_file` writes for a monitor, and
-//! `until_eof` the end of its standard input. `streams` logs what is wrong with an input, an output, a file or a script.
+//! `until_eof` the end of its standard input. `streams` logs what is wrong with an input, an output, a file or a
+//! script.
 //!
 //! `report_fault` (`status_of` of `specs/Faults.antt`) and `answer_usage` give the statuses that `relayd(1)` names
 //! (EXIT STATUS); `simulate` says by the status whether the report or a fault's line was written (`report`, `refused`).

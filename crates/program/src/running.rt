@@ -2,7 +2,6 @@
 //! server.
 ghost use Rattle.std.specs.Prelude.{◌≡◌, ◌⊎◌, IfOk, IfErr};
 
-use crate::config;
 use crate::extras::{Extras, extras_of};
 use crate::faults::{DONE, ProgramFault};
 use crate::logging::{self, Until, direct_log, starting_filter};
@@ -13,7 +12,7 @@ use crate::starting::{
 };
 use crate::stats_file::{Replacing, StatsFile, find_file};
 use crate::telling::{self, Teller};
-use crate::until_eof;
+use crate::{config, until_eof};
 use commands::{Relay, Source};
 use common::Gate;
 use log::{Log, Logged};

@@ -5,6 +5,7 @@ ghost use Rattle.std.specs.Prelude.{◌≡◌, ◌⊎◌, IfErr};
 use crate::logging::level_filter;
 use crate::stats_file::{Replacing, StatsFile};
 use crate::streams::{FileName, log_text};
+use commands::VERSION;
 use log::{Level, Logged};
 use os::set_thread_name;
 use relay_log::log_no_thread;
@@ -15,7 +16,7 @@ use std::alloc::{AllocError, AllocGlobal, Global};
 use std::io::{self, Eprint};
 use std::sync::{Arc, Mutex, Wait};
 use std::thread::{self, Builder, Threads};
-use std::time::{Clock, Duration};
+use std::time::{Clock, Duration, SystemTime};
 use writer_queue::{Direct, LogQueue, Queued};
 
 /// The seconds between two writings of the file, if the options do not say.
@@ -27,6 +28,8 @@ pub(crate) struct Teller {
     alloc: Global,
     /// Where the threads of the relay count.
     pub(crate) statistics: Arc<Statistics>,
+    /// When the relay began, in seconds since 1970, or 0 if the clock does not say.
+    began: u64,
     seconds: u32,
     level: LogLevel,
     logs_line: bool,
@@ -65,6 +68,7 @@ where
     let teller = Teller {
         alloc,
         statistics: made(alloc, settings.slots)?,
+        began: second_of(&rt),
         seconds: stats.unwrap_or(FILE_SECONDS),
         level: settings.log,
         logs_line,
@@ -81,6 +85,17 @@ where
 
 fn made(alloc: Global, slots: usize) -> Result<Arc<Statistics>, AllocError> {
     Ok(Arc::new(alloc, Statistics::new(alloc, slots)?)?)
+}
+
+/// The seconds since 1970, or 0 if the clock does not say.
+fn second_of(rt: &impl Clock) -> u64 {
+    let Ok(now) = SystemTime::now(rt) else {
+        return 0;
+    };
+    match now.duration_since(SystemTime::UNIX_EPOCH) {
+        Ok(passed) => passed.as_secs(),
+        Err(_) => 0,
+    }
 }
 
 fn tell_from_now<R>(rt: R, teller: &Arc<Teller>, queue: &Arc<LogQueue>) -> Result<(), ServerFault>
@@ -112,12 +127,8 @@ where
 }
 
 impl Teller {
-    /// Waits for the interval. With a file, it looks each second whether all slots are taken.
+    /// Waits for the interval. Each second it looks whether all slots are taken, and whether clients wait.
     fn wait<R: Wait + Clock>(&self, rt: &R) {
-        if self.file.is_none() {
-            thread::sleep(rt, Duration::from_secs(u64::from(self.seconds)));
-            return;
-        }
         for _second in 0..self.seconds {
             thread::sleep(rt, Duration::from_secs(1));
             self.statistics.look();
@@ -150,13 +161,23 @@ impl Teller {
             return;
         }
         state.has_ended = is_last;
-        let Err(error) = replace(rt, self.alloc, file, totals) else {
+        let Err(error) = self.replace(rt, file, totals) else {
             return;
         };
         if !state.has_warned {
             state.has_warned = true;
             self.warn(rt, queue, file, &error);
         }
+    }
+
+    fn replace(&self, rt: &impl Replacing, file: &StatsFile, totals: &Totals) -> io::Result<()> {
+        let monitored = Monitored {
+            totals,
+            began: self.began,
+            version: VERSION,
+        };
+        let text = format!(in self.alloc; "{monitored}")?;
+        rt.replace(file, text.as_str())
     }
 
     fn warn<R>(&self, rt: &R, queue: &LogQueue, file: &StatsFile, error: &io::Error)
@@ -171,15 +192,4 @@ impl Teller {
             &format_args!("{name}: {error}; it is tried again each time"),
         );
     }
-}
-
-fn replace(
-    rt: &impl Replacing,
-    alloc: Global,
-    file: &StatsFile,
-    totals: &Totals,
-) -> io::Result<()> {
-    let monitored = Monitored(totals);
-    let text = format!(in alloc; "{monitored}")?;
-    rt.replace(file, text.as_str())
 }

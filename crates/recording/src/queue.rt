@@ -7,10 +7,11 @@ use crossbeam_utils::CachePadded;
 use log::{Log, warn};
 use records::{Act, Record};
 use sizes::Split;
+use statistics::Statistics;
 use std::alloc::{AllocError, Global};
-use std::sync::Wait;
 use std::sync::atomic::AtomicU64;
 use std::sync::atomic::Ordering::SeqCst;
+use std::sync::{Arc, Wait};
 use std::time::{Clock, Duration, Instant};
 use writer_queue::{Drained, ParkedQueue};
 
@@ -42,16 +43,19 @@ pub struct RecordQueue {
     /// no act that begins now is recorded.
     breaks: AtomicU64,
     in_parts: bool,
+    /// Where records that are lost are counted.
+    statistics: Option<Arc<Statistics>>,
 }
 
 impl RecordQueue {
     /// Empty queues for a relay whose pollers have these slots. `in_parts`: once records were lost, recording goes on
-    /// in another part. No later call takes memory.
+    /// in another part. What is lost is counted in the statistics, if there are any. No later call takes memory.
     pub fn new(
         rt: &impl Clock,
         alloc: Global,
         split: Split,
         in_parts: bool,
+        statistics: Option<Arc<Statistics>>,
     ) -> Result<RecordQueue, AllocError>
         ensures room { IfOk result (λ made. made.waiting ≡ replicate 4 131072) }
     {
@@ -67,6 +71,7 @@ impl RecordQueue {
             count: CachePadded::new(AtomicU64::new(0)),
             breaks: AtomicU64::new(0),
             in_parts,
+            statistics,
         })
     }
 
@@ -88,6 +93,22 @@ impl RecordQueue {
 
     pub(crate) fn is_over(&self) -> bool {
         self.breaks.load(SeqCst) % 2 == 1
+    }
+
+    /// Whether an act that begins now is recorded. If not, its record is lost.
+    fn goes_on(&self) -> bool {
+        let is_over = self.is_over();
+        if is_over {
+            self.lose();
+        }
+        !is_over
+    }
+
+    /// Counts a record that is lost.
+    fn lose(&self) {
+        if let Some(statistics) = &self.statistics {
+            statistics.lose();
+        }
     }
 
     /// Ends the recording early. Returns false if a thread that records had.
@@ -201,7 +222,7 @@ impl<R: Wait + Log + Clock> Sink for QueueSink<'_, R> {
     ghost did = { λ _ _ _. Unit {0} };
 
     fn begin(&mut self) -> Option<u64> {
-        (!self.queue.is_over()).then(|| self.queue.next(1))
+        self.queue.goes_on().then(|| self.queue.next(1))
     }
 
     fn time(&mut self) -> u64 {
@@ -213,7 +234,7 @@ impl<R: Wait + Log + Clock> Sink for QueueSink<'_, R> {
     }
 
     fn at_once(&mut self) -> Option<(u64, u64)> {
-        if self.queue.is_over() {
+        if !self.queue.goes_on() {
             return None;
         }
         let before = self.queue.next(2);
@@ -223,11 +244,13 @@ impl<R: Wait + Log + Clock> Sink for QueueSink<'_, R> {
     fn put(&mut self, item: Record) {
         // With a wait that is lost go its time and its reports, which have its counts: none is without its wait.
         if self.lost == Some(item.after) {
+            self.queue.lose();
             return;
         }
         let (waits, is_first) = self.queue.put(self.rt, &item);
         if !waits {
             self.lost = Some(item.after);
+            self.queue.lose();
         }
         if is_first {
             self.warn();

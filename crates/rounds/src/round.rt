@@ -10,7 +10,8 @@ use crate::poller::Poller;
 use crate::sweeping::{is_due, keep_time};
 use claims::Claims;
 use common::{
-    Acts, Clock, Front, Hand, Moves, Own, Shared, Timing, Unaccepted, Waiting, unaccepted_of,
+    Acts, Clock, Counting, Front, Hand, Moves, Own, Shared, Timing, Unaccepted, Waiting,
+    unaccepted_of,
 };
 use log::{Log, error};
 use relay_log::log_all_taken;
@@ -331,8 +332,8 @@ fn take_one<R: Wait>(rt: &R, own: &mut Own) -> bool
 }
 
 /// Keeps what an error of accept(2) means. Returns whether another try is worth making. That accept(2) is starved is
-/// logged once between openings.
-fn not_accepted<F: Front, A, R: Log>(
+/// logged once between openings, and noted each time.
+fn not_accepted<F: Front + Counting, A, R: Log>(
     rt: &R,
     shared: &Shared<F, A>,
     poller: &mut Poller<F>,
@@ -344,6 +345,7 @@ fn not_accepted<F: Front, A, R: Log>(
       episodes = episodes_after class poller.old.episodes;
     } }
     ensures starved { result ≡ false → poller.new.starved ≡ true }
+    ensures noted { result ≡ false → F.starved }
 {
     match unaccepted_of(error.kind()) {
         Unaccepted::Again => true,
@@ -358,6 +360,7 @@ fn not_accepted<F: Front, A, R: Log>(
         }
         Unaccepted::Starved => {
             poller.starved = true;
+            shared.starve();
             if !poller.episodes.starved {
                 log_failure(rt, "accept", error);
             }

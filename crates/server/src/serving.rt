@@ -89,7 +89,8 @@ pub fn serve_recorded<R: System, G: Gate + Sync, C: Clock + Sync, P: Parts + Sen
         return serve(settings, bound, lent);
     };
     let split = split_of(settings);
-    let Ok(queue) = RecordQueue::new(lent.rt, lent.alloc, split, most < u64::MAX) else {
+    let in_parts = most < u64::MAX;
+    let Ok(queue) = record_queue(lent.rt, lent.alloc, split, in_parts, lent.statistics) else {
         return Outcome::refused(ServerFault::NoMemory);
     };
     let recording = Recording {
@@ -101,6 +102,16 @@ pub fn serve_recorded<R: System, G: Gate + Sync, C: Clock + Sync, P: Parts + Sen
     };
     let queue = &recording.queue;
     serve_beside(&recording, move || lent.serve(settings, bound, Some(queue)))
+}
+
+fn record_queue(
+    rt: &impl time::Clock,
+    alloc: Global,
+    split: Split,
+    in_parts: bool,
+    statistics: Option<&Arc<Statistics>>,
+) -> Result<RecordQueue, AllocError> {
+    RecordQueue::new(rt, alloc, split, in_parts, another(statistics)?)
 }
 
 #[derive(Drop)]

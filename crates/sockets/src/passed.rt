@@ -9,11 +9,10 @@ use log::{Log, error};
 use mio::net::TcpListener;
 use os::FromRawFd;
 use sizes::ServerFault;
-use std::fmt;
-use std::io;
 use std::marker::Model;
 use std::net::{SocketAddr, SocketAddrV4};
 use std::os::fd::{AsRawFd, OwnedFd};
+use std::{fmt, io};
 
 /// The number of the descriptor that is passed (`SD_LISTEN_FDS_START`).
 const FIRST: i32 = 3;

@@ -1,5 +1,5 @@
 -- What is counted at a slot, and the sums.
-use Rattle.std.specs.{Prelude.{ℕ, ◌+◌, ◌*◌, ◌-◌, ◌≤◌, min, List, map, ◌≡◌, [], ◌∷◌, slice_index, slice_set, sum_by}, List.zip}
+use Rattle.std.specs.{Prelude.{ℕ, ◌+◌, ◌*◌, ◌-◌, ◌≤◌, min, Bool, true, List, map, ◌≡◌, [], ◌∷◌, slice_index, slice_set, sum_by}, List.zip}
 use Rattle.token.specs.{Kinds.all_kinds, Sides.side_number, declared.{kind.Kind.Kind, side.Side.{Side, TheVariants.{Client, Target}}}}
 use Rattle.relay_core.specs.declared.verdict.{Fault.TheVariants.{Broken, Idle}, Verdict.{Verdict, TheVariants.{Live, Done, Failed}}}
 use Rattle.statistics.specs.declared.{counts.{Count.Count, Counts.Counts}, event.Event.{Event, TheVariants.{Dropped, Opened, Moved, Ended}}, gauge.Levels.Levels, totals.{Figure.Figure, Totals.Totals}}
@@ -112,6 +112,8 @@ number_of (figure.As kind) t = failed_as kind t.sums
 number_of (figure.Of count) t = at count t.sums
 number_of figure.MostOpen t = t.levels.most
 number_of figure.FullSeconds t = t.levels.full_seconds
+number_of figure.WaitingSeconds t = t.levels.waiting_seconds
+number_of figure.LostRecords t = t.levels.lost
 
 -- What is done to the places of the slots' counts, and to the gauge.
 
@@ -134,13 +136,18 @@ module _ {M : Type 0} (did : Step → M → Type 0) where
   AreSums [] before sums = sums ≡ before
   AreSums (place ∷ places) before sums = (counts : Counts) × did (Loaded counts) place × AreSums places (added counts before) sums
 
--- one more connection is open, or one less; a second was added to those with all slots taken; this many are open; these are the
--- levels
+-- one more connection is open, or one less; a second was added to those with all slots taken; this many are open; accept(2)
+-- lacked descriptors or memory; whether it did since this was last asked; a second was added to those in which it did; one more
+-- record is lost; these are the levels
 pub data Turn : Type 0 where
   Entered : Turn
   Left : Turn
   Passed : Turn
   Shown : ℕ → Turn
+  Starved : Turn
+  Heard : Bool → Turn
+  Waited : Turn
+  Lost : Turn
   Told : Levels → Turn
 
 module _ {G : Type 0} (did : Turn → G → Type 0) where
@@ -151,9 +158,15 @@ module _ {G : Type 0} (did : Turn → G → Type 0) where
   IsGauged Dropped gauge = Unit {0}
   IsGauged (Moved up down) gauge = Unit {0}
 
-  -- it was looked how many are open, and a second was added if that is all of these slots
-  abbrev pub IsLookedAt : ℕ → G → Type 0
-  IsLookedAt slots gauge = (taken : ℕ) × did (Shown taken) gauge × (slots ≤ taken → did Passed gauge)
+  -- it was looked how many are open, and whether accept(2) has lacked descriptors or memory. A second was added to those with
+  -- all slots taken, if these are all, and to those in which clients waited, if it has
+  pub record IsLookedAt (slots : ℕ) (gauge : G) : Type 0 where
+    pub taken : ℕ
+    pub starved : Bool
+    pub shown : did (Shown taken) gauge
+    pub heard : did (Heard starved) gauge
+    pub passed : slots ≤ taken → did Passed gauge
+    pub waited : starved ≡ true → did Waited gauge
 
 -- the sums of all places, with the levels that the gauge told
 abbrev pub AreTotals : {M G : Type 0} → (Step → M → Type 0) → (Turn → G → Type 0) → Counted M G → Totals → Totals → Type 0

@@ -1,9 +1,10 @@
-//! How many connections are open, the most that were, and how long all slots were taken, in memory that threads share.
-ghost use Rattle.statistics.specs.Counts.{Entered, IsGauged, IsLookedAt, Left, Passed, Shown, Told, Turn};
+//! How many connections are open, the most that were, for how long all slots were taken or clients waited, and how
+//! many records are lost, in memory that threads share.
+ghost use Rattle.statistics.specs.Counts.{Entered, Heard, IsGauged, IsLookedAt, Left, Lost, Passed, Shown, Starved, Told, Turn, Waited};
 
 use crate::event::Event;
-use std::sync::atomic::AtomicU64;
 use std::sync::atomic::Ordering::SeqCst;
+use std::sync::atomic::{AtomicBool, AtomicU64};
 
 /// What a gauge has kept.
 #[derive(Clone, Copy)]
@@ -12,6 +13,10 @@ pub struct Levels {
     pub most: u64,
     /// The seconds with all slots taken.
     pub full_seconds: u64,
+    /// The seconds in which clients waited, since accept(2) lacked descriptors or memory.
+    pub waiting_seconds: u64,
+    /// The records that a recording lacks.
+    pub lost: u64,
 }
 
 impl Levels {
@@ -19,6 +24,8 @@ impl Levels {
     pub const NONE: Levels = Levels {
         most: 0,
         full_seconds: 0,
+        waiting_seconds: 0,
+        lost: 0,
     };
 }
 
@@ -44,6 +51,22 @@ pub trait Gauge {
     fn open(&self) -> u64
         ensures { did (Shown result) self.now };
 
+    /// accept(2) lacked descriptors or memory.
+    fn starve(&self)
+        ensures { did Starved self.now };
+
+    /// Whether accept(2) has lacked some since the last look.
+    fn was_starved(&self) -> bool
+        ensures { did (Heard result) self.now };
+
+    /// One more second has passed in which accept(2) lacked some.
+    fn wait(&self)
+        ensures { did Waited self.now };
+
+    /// One more record is lost.
+    fn lose(&self)
+        ensures { did Lost self.now };
+
     /// What it has kept.
     fn levels(&self) -> Levels
         ensures { did (Told result) self.now };
@@ -55,6 +78,9 @@ pub struct AtomicGauge {
     open: AtomicU64,
     most: AtomicU64,
     full_seconds: AtomicU64,
+    is_starved: AtomicBool,
+    waiting_seconds: AtomicU64,
+    lost: AtomicU64,
 }
 
 impl AtomicGauge {
@@ -64,6 +90,9 @@ impl AtomicGauge {
             open: AtomicU64::new(0),
             most: AtomicU64::new(0),
             full_seconds: AtomicU64::new(0),
+            is_starved: AtomicBool::new(false),
+            waiting_seconds: AtomicU64::new(0),
+            lost: AtomicU64::new(0),
         }
     }
 }
@@ -88,10 +117,28 @@ impl Gauge for AtomicGauge {
         self.open.load(SeqCst)
     }
 
+    fn starve(&self) {
+        self.is_starved.store(true, SeqCst);
+    }
+
+    fn was_starved(&self) -> bool {
+        self.is_starved.swap(false, SeqCst)
+    }
+
+    fn wait(&self) {
+        self.waiting_seconds.fetch_add(1, SeqCst);
+    }
+
+    fn lose(&self) {
+        self.lost.fetch_add(1, SeqCst);
+    }
+
     fn levels(&self) -> Levels {
         Levels {
             most: self.most.load(SeqCst),
             full_seconds: self.full_seconds.load(SeqCst),
+            waiting_seconds: self.waiting_seconds.load(SeqCst),
+            lost: self.lost.load(SeqCst),
         }
     }
 }
@@ -121,11 +168,15 @@ pub(crate) fn keep<G: Gauge>(gauge: &G, event: Event)
     }
 }
 
-/// Looks whether all of these slots are taken, and adds a second if they are.
+/// Looks whether all of these slots are taken, and whether accept(2) has lacked descriptors or memory since the last
+/// look, and adds a second to each that is so.
 pub(crate) fn look<G: Gauge>(gauge: &G, slots: usize)
     ensures { IsLookedAt G.did slots gauge.now }
 {
     if gauge.open() >= slots as u64 {
         gauge.pass();
+    }
+    if gauge.was_starved() {
+        gauge.wait();
     }
 }

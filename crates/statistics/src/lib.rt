@@ -1,11 +1,12 @@
 //! How many connections a relay has opened, how each ended, and how many bytes it has forwarded.
 //!
 //! Each slot has a place. Only the thread that has the slot writes there ([`Statistics::count`]), so no thread waits
-//! for another. A gauge beside them, which all write, keeps the most that were open at once. [`Statistics::totals`]
-//! sums all places. The sums ([`Totals`]) print as a line of the log, and as a monitor reads them ([`Monitored`]):
+//! for another. A gauge beside them, which all write, keeps the most that were open at once, how long clients waited,
+//! and what a recording lacks. [`Statistics::totals`] sums all places. The sums ([`Totals`]) print as a line of the
+//! log, and as a monitor reads them ([`Monitored`]):
 //!
 //! ```text
-//! stats open=12 slots=1024 opened=503 done=480 failed=11 dropped=2 client=3 target=7 .. up=8192 down=65536
+//! stats open=12 slots=1024 opened=503 done=480 failed=11 dropped=2 client=3 target=7 .. down=65536 waited=0 lost=0
 //! ```
 //!
 //! No clause can name what an atomic number holds. Over any memory it is proved that to count an event reads the slot's

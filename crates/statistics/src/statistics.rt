@@ -1,6 +1,6 @@
 //! The counts of all slots, and their sums.
 ghost use Rattle.std.specs.Prelude.{◌≡◌, ◌<◌, ◌≤◌, IfOk, IfSome, length, slice_get};
-ghost use Rattle.statistics.specs.Counts.{AreSums, AreTotals, IsCounted, IsGauged, IsLookedAt, no_sums};
+ghost use Rattle.statistics.specs.Counts.{AreSums, AreTotals, IsCounted, IsGauged, IsLookedAt, Lost, Starved, no_sums};
 
 use crate::counts::Counts;
 use crate::event::Event;
@@ -61,7 +61,22 @@ impl<M: Memory, G: Gauge> Statistics<M, G> {
         gauge::keep(&self.gauge, event);
     }
 
-    /// Adds a second to those with all slots taken, if they are now.
+    /// accept(2) lacked descriptors or memory, so clients wait.
+    pub fn starve(&self)
+        ensures { G.did Starved self.now.gauge }
+    {
+        self.gauge.starve();
+    }
+
+    /// A recording lacks one more record.
+    pub fn lose(&self)
+        ensures { G.did Lost self.now.gauge }
+    {
+        self.gauge.lose();
+    }
+
+    /// Adds a second to those with all slots taken, if they are now, and to those in which clients waited, if accept(2)
+    /// has lacked descriptors or memory since the last look.
     pub fn look(&self)
         ensures { IsLookedAt G.did (length self.now.places) self.now.gauge }
     {

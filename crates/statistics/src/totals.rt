@@ -27,10 +27,14 @@ pub enum Figure {
     MostOpen,
     /// The seconds with all slots taken.
     FullSeconds,
+    /// The seconds in which clients waited, since accept(2) lacked descriptors or memory.
+    WaitingSeconds,
+    /// The records that a recording lacks.
+    LostRecords,
 }
 
 /// The numbers of the line, in order, as they are written.
-static COLUMNS: [(&str, Figure); 14] = [
+static COLUMNS: [(&str, Figure); 16] = [
     ("open", Figure::Open),
     ("slots", Figure::Slots),
     ("opened", Figure::Opened),
@@ -45,6 +49,8 @@ static COLUMNS: [(&str, Figure); 14] = [
     ("idle", Figure::Of(Count::Idle)),
     ("up", Figure::Of(Count::Up)),
     ("down", Figure::Of(Count::Down)),
+    ("waited", Figure::WaitingSeconds),
+    ("lost", Figure::LostRecords),
 ];
 
 /// The sums of what was counted at `slots` slots. It prints as the line of the statistics.
@@ -98,6 +104,8 @@ impl Totals {
             Figure::Of(count) => self.sums.wide(count),
             Figure::MostOpen => u128::from(self.levels.most),
             Figure::FullSeconds => u128::from(self.levels.full_seconds),
+            Figure::WaitingSeconds => u128::from(self.levels.waiting_seconds),
+            Figure::LostRecords => u128::from(self.levels.lost),
         }
     }
 }
