@@ -138,14 +138,18 @@ def those_over_0(path):
 # refuses looks_once_an_interval: it is looked once an interval, and not each second, whether all slots are taken
 # refuses levels_exchanged: the most connections that were open and the seconds with all slots taken are exchanged
 # refuses line_each_second: the line of statistics is logged each second, whatever --stats says
+# refuses made_under_a_monitored_name: the file is made under a name that ends in .prom, as those do that a monitor reads
+# refuses left_one_stays: the file is not made where a process of the same number has left one
 @by_time
 def tells_the_counts_as_often_as_is_asked():
     # The line alone comes once in 3 seconds, and the file alone once in 15, with no line.
-    with folder() as (_, path):
+    with folder() as (place, path):
         begun, other = time.monotonic(), Relay(options=["--stats", "3"], log="warn")
         relay = Relay(target(echo), slots=2, stop_after=2, options=["--stats-file", path])
         assert until(lambda: os.path.exists(path)) and those_over_0(path) == {"slots": 2}
         first, clients = os.stat(path).st_mtime, served(relay, 2)
+        # Another process with its number may have left something where the next is made. It is removed, and no link followed.
+        os.symlink(f"{path}.other", f"{path}.{relay.process.pid}")
         assert all([" stats open=0 " in other.process.stderr.readline() for _ in range(3)])
         assert 9 <= time.monotonic() - begun < 12 and os.stat(path).st_mtime == first
         assert until(lambda: os.stat(path).st_mtime > first) and 14.9 < os.stat(path).st_mtime - first < 16
@@ -156,6 +160,7 @@ def tells_the_counts_as_often_as_is_asked():
         for client in clients:
             client.close()
         assert having(relay.ended(), "] stats ") == [] and read(path)["relayd_connections_done_total"] == 2
+        assert os.listdir(place) == ["relayd.prom"]
 
 
 # refuses file_of_others_is_replaced: a file with the statistics of another program is replaced

@@ -132,7 +132,7 @@ def goes_on_behind_a_gap():
     with tempfile.TemporaryDirectory() as folder:
         path = pathlib.Path(folder, "relay.record")
         options = "--record", path, "--record-size", "100000000", "--stats", "86400"
-        relay = Relay(target(echo), options=options, log="warn", slots=8, stop_after=14)
+        relay = Relay(target(echo), options=options, log="warn", slots=64, stop_after=14)
         early = [relay.connect() for _ in range(4)]
         assert all(map(asked, early))
         with halted(*relay.named("record")):
