@@ -11,7 +11,7 @@ import subprocess
 import time
 
 from loopback import TESTS, WAIT, Relay, echo, in_thread, read_all, start, target, until
-from shared import LONGEST, asked, connected, fill, is_closed_soon, is_open, left_out, numbers_in
+from shared import LONGEST, asked, connected, is_closed_soon, is_open, left_out, numbers_in
 
 DRAIN = os.path.abspath(f"{TESTS}/../packaging/relayd-drain")
 BUSY = 50
@@ -31,13 +31,9 @@ def drained(seconds=WAIT, errors=subprocess.PIPE):
 
 
 def is_gone(process):
-    """Whether within a second nothing is left of its group, for which systemd would wait."""
-    with contextlib.suppress(ProcessLookupError):
-        for _ in range(20):
-            os.killpg(process.pid, 0)
-            time.sleep(0.05)
-        return False
-    return True
+    """Whether within three seconds nothing is left of its group, for which systemd would wait."""
+    words = ["timeout", "3", "sh", "-c", f"while kill -0 -- -{process.pid}; do sleep 0.1; done"]
+    return subprocess.run(words, stderr=subprocess.DEVNULL).returncode == 0
 
 
 def ask_until(client, is_over):
@@ -74,8 +70,9 @@ def a_signal_cuts_none_of_the_connections():
 def those_that_are_left_are_cut_in_time():
     # It says how many there are after ten seconds, and how many it cuts after one more, also to a journal that is read too late.
     journal, its_errors = socket.socketpair()
-    fill(its_errors)
-    its_errors.setblocking(True)
+    with contextlib.suppress(BlockingIOError):
+        while its_errors.send(bytes(4096), socket.MSG_DONTWAIT):
+            pass
     with drained(11, its_errors) as (process, port), connected(port) as client, connected(port) as other:
         its_errors.close()
         assert asked(client) and asked(other)

@@ -162,7 +162,7 @@ def is_replaced_at_another_address():
 
 
 def is_replaced_however_late_it_ends():
-    # The first one is stopped for three seconds, and listens until then.
+    # The first one is stopped for three seconds, and listens until then. The new one is to listen at every address.
     with replaceable() as (folder, port, settings, program):
         late, number = pathlib.Path(folder, "late"), pathlib.Path(folder, "number")
         late.write_text(f'#!/bin/sh\necho $$ > {number} && exec "{program}" "$@"\n')
@@ -172,7 +172,8 @@ def is_replaced_however_late_it_ends():
             assert asked(client)
             os.kill(int(number.read_text()), signal.SIGSTOP)
             threading.Timer(3, os.kill, (int(number.read_text()), signal.SIGCONT)).start()
-            assert replace(folder, settings, program).stdout == f"listening 127.0.0.1:{port}\n" and asked(client)
+            pathlib.Path(settings).write_text(pathlib.Path(settings).read_text().replace("127.0.0.1", "0.0.0.0", 1))
+            assert replace(folder, settings, program).stdout == f"listening 0.0.0.0:{port}\n" and asked(client)
         end_holder(folder)
         assert until(lambda: not is_open(port))
 
