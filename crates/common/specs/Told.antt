@@ -1,14 +1,14 @@
 -- What a front shows, what the statistics count of a connection, what is logged of one that could not be opened, and
 -- what the errors of accept(2) mean to the relay.
 use Rattle.std.specs.Prelude.{◌≡◌, ℕ, Bool, List}
-use Rattle.std.specs.declared.io.ErrorKind.{ErrorKind, TheVariants.{Interrupted, ConnectionAborted, NetworkDown, NetworkUnreachable, HostUnreachable, WouldBlock}}
+use Rattle.std.specs.declared.{io.ErrorKind.{ErrorKind, TheVariants.{Interrupted, ConnectionAborted, NetworkDown, NetworkUnreachable, HostUnreachable, WouldBlock}}, net.SocketAddr.SocketAddr}
 use Rattle.relay_core.specs.Pairs.{PairState, verdict}
 use Rattle.statistics.specs.declared.event.Event.{Event, TheVariants.{Moved, Ended}}
 use Rattle.sizes.specs.declared.cause.Cause.{Cause}
 use Rattle.common.specs.declared.front.{Waiting.{Waiting, TheVariants.{No, Brief, Long}}, Unaccepted.{Unaccepted, TheVariants.{Again, Blocked, Starved}}, Unopened.{Unopened, TheVariants.{Connect, Register}}}
 use Rattle.sizes.specs.declared.cause.Cause.TheVariants as cause
 
--- what a front shows of its last wait for reports, and whether it listens
+-- what a front shows of its last wait for reports, whether it listens, and where it connects clients to
 pub record Seen : Type 0 where
   -- what the last wait for reports gave
   pub reported : List ℕ
@@ -20,6 +20,8 @@ pub record Seen : Type 0 where
   pub longest : ℕ
   -- whether the front still has a share of the listening socket
   pub listens : Bool
+  -- the target's address
+  pub target : SocketAddr
 
 -- for how many milliseconds a front waits that never waits longer than this
 abbrev pub millis_of : Waiting → ℕ → ℕ

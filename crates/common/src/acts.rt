@@ -154,6 +154,7 @@ pub trait Moves<F: Front>: Acts {
         ensures made { OnOk result (Self.made act.Register client_token.slot self.old self.new) }
         ensures named { OnOk result (named (record { slot = client_token.slot; generation = client_token.generation }) self.new) }
         ensures none { OnErr result (self.new ≡ self.old) }
+        ensures dialled { IfOk result (λ opened. F.dialled (F.seen front.old).target opened.target) }
         ensures told { IfOk result (λ opened. F.may_tell client.old opened.route) }
         ensures refused { IfErr result (λ why. F.may_refuse client.old why) }
         ensures seen { F.seen front.new ≡ F.seen front.old };

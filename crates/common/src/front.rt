@@ -136,9 +136,10 @@ impl Waiting {
 
 /// Where connections and reports come from: the system's sockets, or an in-memory fake.
 pub trait Front {
+    ghost use Rattle.std.specs.declared.net.SocketAddr.{SocketAddr};
     ghost use Rattle.common.specs.{Told.Seen, declared.front.{Unaccepted.Unaccepted, Unopened.Unopened, Route.Route}};
 
-    // What it shows of its last wait for reports, and whether it listens.
+    // What it shows of its last wait for reports, whether it listens, and where it connects clients to.
     ghost seen: { Self → Seen };
 
     // Which addresses it may give for a client's connection. This and the defaults below promise nothing.
@@ -146,6 +147,12 @@ pub trait Front {
 
     // For which reasons it may refuse to open a client's connection.
     ghost may_refuse: { Self.Client → Unopened → Type 0 } = { λ _ _. Unit {0} };
+
+    // That accept(2) gave this client, with the address that its wire has.
+    ghost accepted: { Self.Client → Type 0 } = { λ _. Unit {0} };
+
+    // That this target's connection was started to this address.
+    ghost dialled: { SocketAddr → Self.Target → Type 0 } = { λ _ _. Unit {0} };
 
     // That accept(2) gave no connection for this reason.
     ghost gave_none: { Unaccepted → Type 0 } = { λ _. Unit {0} };
@@ -185,6 +192,7 @@ pub trait Front {
 
     /// Accepts the next connection that waits (accept(2)).
     fn accept(&mut self) -> io::Result<Self::Client>
+        ensures accepted { IfOk result accepted }
         ensures none { IfErr result (λ error. gave_none (unaccepted_of (error_kind error))) }
         ensures seen { seen self.new ≡ seen self.old };
 
@@ -209,6 +217,7 @@ pub trait Front {
         client_token: Token,
         target_token: Token,
     ) -> Result<Opened<Self::Target>, Unopened>
+        ensures dialled { IfOk result (λ opened. dialled (seen self.old).target opened.target) }
         ensures told { IfOk result (λ opened. may_tell client.old opened.route) }
         ensures refused { IfErr result (λ why. may_refuse client.old why) }
         ensures same { Self.Client.told client.new ≡ Self.Client.told client.old }

@@ -104,6 +104,10 @@ impl<F: Front + Drop, S: Sink> Front for RecordedFront<F, S> {
 
     ghost may_tell = { λ client route. F.may_tell client.inner route };
 
+    ghost accepted = { λ client. F.accepted client.inner };
+
+    ghost dialled = { λ address target. F.dialled address target.inner };
+
     ghost may_refuse = { λ client why. F.may_refuse client.inner why };
 
     ghost lacked = { F.lacked };
@@ -150,6 +154,7 @@ impl<F: Front + Drop, S: Sink> Front for RecordedFront<F, S> {
 
     fn accept(&mut self) -> io::Result<RecordedWire<F::Client, S>>
         ensures seen { F.seen self.new.inner ≡ F.seen self.old.inner }
+        ensures accepted { IfOk result (λ client. F.accepted client.inner) }
         ensures unnamed { IfOk result (λ client. client.name ≡ None) }
         ensures recorded { Records S.did (act.Poller self.old.poller (polling.Accept (accepted result)) ∷ [])
             self.old.recorder.sink self.new.recorder.sink }
@@ -187,6 +192,7 @@ impl<F: Front + Drop, S: Sink> Front for RecordedFront<F, S> {
         client_token: Token,
         target_token: Token,
     ) -> Result<Opened<RecordedWire<F::Target, S>>, Unopened>
+        ensures dialled { IfOk result (λ opened. F.dialled (F.seen self.old.inner).target opened.target.inner) }
         ensures told { IfOk result (λ opened. F.may_tell client.old.inner opened.route) }
         ensures refused { IfErr result (λ why. F.may_refuse client.old.inner why) }
         ensures same { F.Client.told client.new.inner ≡ F.Client.told client.old.inner }

@@ -134,6 +134,7 @@ fn prepare<F: Front, A: Moves<F>, N: Log>(
     ensures acts { Registered (Naming A.named A.made) (of_end names.client) result acts.old acts.new }
     ensures fresh { IfOk result (λ berth. IsFresh (F.may_tell client) poller.old.opening poller.old.second
         (of_end names.client) berth.value) }
+    ensures dialled { IfOk result (λ berth. F.dialled poller.old.seen.target berth.value.target) }
     ensures prepared { OnOk result (hand.new ≡ hand.old) }
     ensures cause { IfErr result (λ dropped. DropsFor (F.may_refuse client) (F.may_tell client) poller.old.opening.proxy dropped) }
     ensures lacked { IfErr result (λ dropped. dropped ≡ Cause.Memory → F.lacked) }
@@ -213,6 +214,7 @@ fn reach<F: Front, A: Moves<F>, N: Log>(
     ensures acts { Registered (Naming A.named A.made) (of_end names.client) result acts.old acts.new }
     ensures pair { IfOk result (λ made. made.0 ≡ fresh names.client.slot names.client.generation opening.ring second made.0.up.lead) }
     ensures lead { IfOk result (λ made. LeadGiven (F.may_tell client.old) opening.proxy (Some made.0.up.lead)) }
+    ensures dialled { IfOk result (λ made. F.dialled (F.seen front.old).target made.1) }
     ensures cause { IfErr result (λ cause. DropsFor (F.may_refuse client.old) (F.may_tell client.old) opening.proxy cause) }
     ensures seen { F.seen front.new ≡ F.seen front.old }
 {

@@ -1,2 +1,3 @@
 -- What the crate proves beyond its functions.
 mod Lifting
+mod Steps

@@ -1,5 +1,5 @@
 -- Where a server listens, and what is reported.
-use Rattle.std.specs.{Prelude.{◌≡◌, ◌≢◌, ◌⊎◌, ℕ, pos, ◌*◌, max, min, Bool, true, false, ◌||◌, if◌then◌else◌, List, [], map, OnOk, IsTrue, ◌↔◌, Option, Some, None, Result, Ok, Err}, IoError.{error_kind, raw_os_error}, declared.{io.{Error.Error, ErrorKind.TheVariants.Interrupted}, net.{SocketAddr.{SocketAddr, TheVariants.{V4, V6}}, SocketAddrV4.SocketAddrV4}}, Result.result_ok, Net.{Addr.{IsV4And, ipv4_octets}, Socket.{socket_ip, v4_ip, v4_port, IsPlainSocket}}}
+use Rattle.std.specs.{Prelude.{◌≡◌, ◌≢◌, ◌⊎◌, ℕ, pos, ◌*◌, max, min, Bool, true, false, ◌||◌, if◌then◌else◌, List, [], ◌∷◌, map, OnOk, IsTrue, ◌↔◌, Option, Some, None, Result, Ok, Err}, IoError.{error_kind, raw_os_error}, declared.{io.{Error.Error, ErrorKind.TheVariants.Interrupted}, net.{SocketAddr.{SocketAddr, TheVariants.{V4, V6}}, SocketAddrV4.SocketAddrV4}}, Result.result_ok, Net.{Addr.{IsV4And, ipv4_octets}, Socket.{socket_ip, v4_ip, v4_port, IsPlainSocket}}}
 use Rattle.token.specs.{Names.EndName, Numbers.name_of, declared.name.Name.{Name, TheVariants.{Listener, Waker, End}}}
 use Rattle.readiness.specs.Words.{WordName, word_of}
 use Rattle.settings.specs.Addresses.{SocketAddress}
@@ -38,9 +38,28 @@ abbrev pub Fails : Result (Unit {0}) Error → Type 0
 Fails (Ok done) = ⊥
 Fails (Err error) = error_kind error ≢ Interrupted
 
--- A front: how its connections are forwarded, what it shows, how many times in a row it has left a client to other pollers, and
--- how many more times it answers as if accept(2) lacked memory
-pub record Watched : Type 0 where
+-- A step of what reports on sockets: a wait of this many milliseconds, if nothing ended it before, which gave these events; or
+-- an event was passed on at the word that it sets, if any
+pub data Step : Type 0 where
+  Gave : ℕ → List Event → Step
+  PassedOn : Event → Step
+
+-- Only the system knows what a wait changes. So this holds for any such relation
+module _ {P : Type 0} (did : Step → P → P → Type 0) where
+  -- these events were passed on, each once, in order, and nothing else was done
+  abbrev pub ArePassedOn : List Event → P → P → Type 0
+  ArePassedOn [] from to = to ≡ from
+  ArePassedOn (event ∷ events) from to = (next : P) × did (PassedOn event) from next × ArePassedOn events next to
+
+  -- a poll: one wait of this many milliseconds, and all that it gave was passed on. These are the numbers of that
+  abbrev pub Polls : ℕ → List ℕ → P → P → Type 0
+  Polls millis reported from to = (events : List Event) × (waited : P) × did (Gave millis events) from waited
+      × ArePassedOn events waited to × (reported ≡ numbers events)
+
+-- A front: what reports on its sockets, how its connections are forwarded, what it shows, how many times in a row it has left a
+-- client to other pollers, and how many more times it answers as if accept(2) lacked memory
+pub record Watched (P : Type 0) : Type 0 where
+  pub poll : P
   pub forwarding : Forwarding
   pub seen : Seen
   pub left : ℕ
@@ -52,10 +71,11 @@ abbrev pub longest_of : ℕ → ℕ
 longest_of pollers = 100 * max (min pollers 16) 2
 
 -- a front as it begins, one of this many
-abbrev pub fresh_front : Forwarding → ℕ → Watched
-fresh_front forwarding pollers = record {
+abbrev pub IsFresh : {P : Type 0} → Forwarding → ℕ → Watched P → Type 0
+IsFresh forwarding pollers front = front ≡ record {
+  poll = front.poll;
   forwarding = forwarding;
-  seen = record { reported = []; failed = false; waited = 0; longest = longest_of pollers; listens = true };
+  seen = record { reported = []; failed = false; waited = 0; longest = longest_of pollers; listens = true; target = forwarding.target };
   left = 0;
   lacking = 0;
 }
@@ -79,18 +99,19 @@ LacksMemory error =
     (raw_os_error error ≡ Some (pos 12)) ⊎ ((raw_os_error error ≡ Some (pos 105)) ⊎ (raw_os_error error ≡ Some (pos 28)))
 
 -- an opening changes at most this of a front: it may have lacked memory
-abbrev pub OnlyLacked : Watched → Watched → Type 0
+abbrev pub OnlyLacked : {P : Type 0} → Watched P → Watched P → Type 0
 OnlyLacked old new =
     (new ≡ record old { lacking = new.lacking }) × ((new.lacking ≡ old.lacking) ⊎ (new.lacking ≡ most_lacking))
 
 -- What a wait for reports says of this front, beside what it says of any. After a brief wait without a report the front
 -- leaves no client, and after a long one it no longer lacks memory
-pub record WaitEnded (wait : Waiting) (answer : Result (Unit {0}) Error) (old new : Watched) : Type 0 where
+pub record WaitEnded {P : Type 0} (wait : Waiting) (answer : Result (Unit {0}) Error) (old new : Watched P) : Type 0 where
   pub fails : IsTrue new.seen.failed ↔ Fails answer
   pub quiet : OnOk answer (wait ≡ waiting.Brief → new.seen.reported ≡ [] → new.left ≡ most_left)
   pub kept : wait ≢ waiting.Brief → new.left ≡ old.left
   pub eased : OnOk answer (wait ≡ waiting.Long → new.seen.reported ≡ [] → new.lacking ≡ 0)
   pub lacks : (new.lacking ≡ old.lacking) ⊎ ((wait ≡ waiting.Long) × (new.seen.reported ≡ []))
+  pub same : new ≡ record old { poll = new.poll; seen = new.seen; left = new.left; lacking = new.lacking }
 
 -- a socket that listens: the address that the system was asked for, and the one that it gave
 pub record Listens (L : Type 0) : Type 0 where

@@ -2,7 +2,7 @@
 ghost use Rattle.std.specs.Prelude.{◌≡◌};
 ghost use Rattle.sockets.specs.{Fronts.IsAt, Wires.unlimited};
 
-use mio::net::TcpStream;
+use mio::net::{TcpListener, TcpStream};
 use settings::Settings;
 use std::io;
 use std::net::{Net, SocketAddr};
@@ -60,14 +60,36 @@ impl Patience {
     }
 }
 
-/// A handle that starts connections. A thread can be started with a front that needs only this, but not with `Net`.
+/// A handle that starts and accepts connections. A thread can be started with a front that needs only this, but not
+/// with `Net`. The trait leaves open what the system does.
 pub trait Dial {
+    ghost use Rattle.std.specs.{Prelude.IfOk, declared.net.SocketAddr.SocketAddr};
+    ghost use Rattle.mio.specs.declared.net.stream.TcpStream.{TcpStream};
+
+    // This connection was started to this address, or accepted from it.
+    ghost dialled: { SocketAddr → TcpStream → Type 0 };
+
+    ghost accepted: { SocketAddr → TcpStream → Type 0 };
+
     /// Starts a connection to an address (socket(2), connect(2)).
-    fn dial(&self, address: SocketAddr) -> io::Result<TcpStream>;
+    fn dial(&self, address: SocketAddr) -> io::Result<TcpStream>
+        ensures { IfOk result (dialled address) };
+
+    /// Accepts the next connection that waits (accept(2)). Gives its client's address, too.
+    fn accept(&self, listener: &TcpListener) -> io::Result<(TcpStream, SocketAddr)>
+        ensures { IfOk result (λ made. accepted made.1 made.0) };
 }
 
 impl<R: Net> Dial for R {
+    ghost dialled = { λ _ _. Unit {0} };
+
+    ghost accepted = { λ _ _. Unit {0} };
+
     fn dial(&self, address: SocketAddr) -> io::Result<TcpStream> {
         TcpStream::connect(self, address)
+    }
+
+    fn accept(&self, listener: &TcpListener) -> io::Result<(TcpStream, SocketAddr)> {
+        listener.accept()
     }
 }

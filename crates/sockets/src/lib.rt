@@ -11,10 +11,11 @@
 //! # Inside
 //!
 //! An event names reading if it says that something can be read, or that the socket has failed or was closed
-//! (`names_reading`). Such an event sets the word of the end that its number names, if any (`tell`: `heard`). A socket
-//! is registered under its token's number, with that token's word (`watch`: `registered`). A wait for reports is made
-//! once and for as long as is asked for (`Waiter`: `asked`). `bind` asks the system to listen at the settings' address
-//! and no other (`listen`). A socket that was passed is looked at before it is used (`look_at`).
+//! (`names_reading`). Such an event sets the word of the end that its number names, if any (`Reporter::pass_on`:
+//! `heard`). A socket is registered under its token's number, with that token's word (`watch`: `registered`). A poll
+//! waits once, for as long as is asked for, and passes on all that the wait gave (`poll`: `once`). `bind` asks the
+//! system to listen at the settings' address and no other (`listen`). A socket that was passed is looked at before it is
+//! used (`look_at`). A client is connected to the address that its front shows as the target (`Dial`: `dialled`).
 #![tactic(auto)]
 
 mod bound;

@@ -1,9 +1,7 @@
 //! A poller's front over epoll(7): it waits, accepts, connects and registers.
-ghost use Rattle.std.specs.{Prelude.{◌≡◌, ◌≢◌, ◌↔◌, ◌⊎◌, IsTrue, if◌then◌else◌, ◌+◌, ◌-◌, ◌<◌, ◌≤◌, ◌++◌, [], length, replicate, true, false, Some, None, IfOk, OnOk, IfErr, OnErr, IsErrAnd, vec_len, vec_capacity}, Arc.arc_value, IoError.error_kind, declared.io.ErrorKind.TheVariants.Interrupted};
-ghost use Rattle.mio.specs.{Event.event_token, Events.items};
-ghost use Rattle.token.specs.Numbers.{name_of};
-ghost use Rattle.sockets.specs.{Fronts.{end_in, fresh_front, heard_of, longest_of, most_lacking, most_left, names_reading, numbers, v4_of, LacksDescriptors, LacksMemory, IsLocal, IsRoute, MayTell, OnlyLacked, WaitEnded}, Wires.{SameButWatched, fresh_wire, patient, under, unlimited}};
-ghost use Rattle.common.specs.{Told.{unaccepted_of, Waited}, declared.front.{Unaccepted.TheVariants.Starved, Unopened.TheVariants.{Connect, Register}}};
+ghost use Rattle.std.specs.{Prelude.{◌≡◌, ◌≢◌, ◌↔◌, ◌⊎◌, IsTrue, if◌then◌else◌, ◌+◌, ◌-◌, ◌<◌, ◌≤◌, All, [], true, false, Some, None, IfOk, OnOk, IfErr, OnErr, IsErrAnd, vec_len, vec_capacity}, Arc.arc_value, IoError.error_kind, declared.io.ErrorKind.TheVariants.Interrupted};
+ghost use Rattle.sockets.specs.{Fronts.{longest_of, most_lacking, most_left, v4_of, IsFresh, LacksDescriptors, LacksMemory, IsLocal, IsRoute, MayTell, OnlyLacked, Polls, WaitEnded}, Wires.{SameButWatched, fresh_wire, patient, under, unlimited}};
+ghost use Rattle.common.specs.{Told.{millis_of, unaccepted_of, Waited}, declared.front.{Unaccepted.TheVariants.Starved, Unopened.TheVariants.{Connect, Register}}};
 ghost use Rattle.sizes.specs.Splits.{parts_of};
 
 use crate::bound::Bound;
@@ -16,16 +14,15 @@ use crate::loads::Loads;
 use crate::socket::Socket;
 use crate::stop::{IsSet, Stop};
 use crate::stream::Stream;
-use crate::waiting::Waiter;
+use crate::waiting::{Reporter, Waiter, put_numbers};
 use crate::wire::SocketWire;
 use common::{Front, Opened, Route, Settle, Unopened, Waiting};
 use libc::{EMFILE, ENOMEM, ENOSPC};
 use log::{Level, Log};
-use mio::event::Event;
 use mio::net::TcpListener;
 use mio::unix::SourceFd;
-use mio::{Events, Interest, Poll, Registry, Waker};
-use readiness::{Heard, Reports, Told};
+use mio::{Interest, Poll, Registry, Waker};
+use readiness::{Reports, Told};
 use sizes::{LISTENER, MAX_BATCH, ServerFault, Split, WAKER};
 use std::alloc::{AllocError, Global};
 use std::io;
@@ -34,19 +31,19 @@ use std::net::{Net, SocketAddr, SocketAddrV4};
 use std::os::fd::AsRawFd;
 use std::sync::Arc;
 use std::thread::yield_now;
-use token::{Name, Token, unpack};
+use token::Token;
 
 /// The front of one poller over the system's sockets: the listening socket, which all pollers share, one target, and an
 /// epoll(7) instance of its own.
 #[derive(Drop)]
-pub struct Sockets<'r, R> {
+pub struct Sockets<'r, R, P = Poll> {
     rt: &'r R,
     // Its share of the listening socket, until it no longer listens.
     listener: Option<Arc<TcpListener>>,
     forwarding: Forwarding,
     // The words by which wires hear of their sockets' reports.
     told: Arc<Reports>,
-    waiter: Waiter,
+    waiter: Waiter<P>,
     // How many clients each poller has, and this poller's number.
     loads: Arc<Loads>,
     poller: usize,
@@ -58,14 +55,15 @@ pub struct Sockets<'r, R> {
     busy: u8,
 }
 
-impl<'r, R> Model for Sockets<'r, R> {
+impl<'r, R, P> Model for Sockets<'r, R, P> {
     ghost use Rattle.std.specs.{Prelude.◌≡◌, Option.is_some};
     ghost use Rattle.mio.specs.Events.{items, capacity as events_capacity};
     ghost use Rattle.sockets.specs.Fronts.{Watched, numbers};
 
-    ghost Value = { Watched };
+    ghost Value = { Watched P };
 
     ghost view = { λ s. record {
+      poll = s.waiter.poll;
       forwarding = s.forwarding;
       seen = record {
         reported = numbers (items s.waiter.events);
@@ -73,6 +71,7 @@ impl<'r, R> Model for Sockets<'r, R> {
         waited = s.waiter.waited;
         longest = s.waiter.longest;
         listens = is_some s.listener;
+        target = s.forwarding.target;
       };
       left = s.left;
       lacking = s.lacking;
@@ -111,8 +110,8 @@ pub fn open_all<'r, R: Net + Log>(
     split: Split,
     stop: &Stop,
 ) -> Result<(Vec<Sockets<'r, R>>, Arc<Wakers>), ServerFault>
-    ensures opened { IfOk result (λ made. made.0.items
-        ≡ replicate (parts_of split.slots split.size) (fresh_front forwarding (parts_of split.slots split.size))) }
+    ensures count { IfOk result (λ made. vec_len made.0 ≡ parts_of split.slots split.size) }
+    ensures opened { IfOk result (λ made. All (IsFresh forwarding (parts_of split.slots split.size)) made.0.items) }
     ensures wakers { IfOk result (λ made. (arc_value made.1).split ≡ split) }
     ensures refused { IfErr result (λ fault. (fault ≡ ServerFault.Poll) ⊎ (fault ≡ ServerFault.NoMemory)) }
 {
@@ -158,8 +157,8 @@ fn fronts_of<'r, R: Net + Log>(
     split: Split,
     stop: &Stop,
 ) -> Result<(Vec<Sockets<'r, R>>, Arc<Wakers>), ServerFault>
-    ensures opened { IfOk result (λ made. made.0.items
-        ≡ replicate (parts_of split.slots split.size) (fresh_front forwarding (parts_of split.slots split.size))) }
+    ensures count { IfOk result (λ made. vec_len made.0 ≡ parts_of split.slots split.size) }
+    ensures opened { IfOk result (λ made. All (IsFresh forwarding (parts_of split.slots split.size)) made.0.items) }
     ensures wakers { IfOk result (λ made. (arc_value made.1).split ≡ split) }
     ensures refused { IfErr result (λ fault. (fault ≡ ServerFault.Poll) ⊎ (fault ≡ ServerFault.NoMemory)) }
 {
@@ -183,7 +182,7 @@ fn open_one<'r, R: Net + Log>(
     poller: usize,
     pollers: usize,
 ) -> Result<(Sockets<'r, R>, Waker), ServerFault>
-    ensures front { IfOk result (λ made. made.0 ≡ fresh_front forwarding pollers) }
+    ensures front { IfOk result (λ made. IsFresh forwarding pollers made.0) }
     ensures refused { IfErr result (λ fault. (fault ≡ ServerFault.Poll) ⊎ (fault ≡ ServerFault.NoMemory)) }
 {
     match reports_on(rt, &shared.listener) {
@@ -207,7 +206,7 @@ fn front_of<'r, R>(
     poller: usize,
     pollers: usize,
 ) -> Result<Sockets<'r, R>, AllocError>
-    ensures { IfOk result (λ front. front ≡ fresh_front forwarding pollers) }
+    ensures { IfOk result (IsFresh forwarding pollers) }
 {
     Ok(Sockets {
         rt,
@@ -248,13 +247,15 @@ fn longest_of(pollers: usize) -> u64
     pollers.min(MAX_POLLERS).max(2) as u64 * WAIT_MILLIS
 }
 
-impl<R: Dial> Sockets<'_, R> {
+impl<R: Dial, P: Reporter> Sockets<'_, R, P> {
     /// Starts the connection to the target, and sets its limit, which the system checks only when it sends again. If
     /// the start fails, the client's wire keeps the cause.
+    #[tactic(auto, using(crate::proofs::Steps::same_after))]
     fn begin<N: Log>(&mut self, rt: &N, client: &mut SocketWire) -> Result<SocketWire, Failed>
         ensures client { client.new ≡ client.old }
         ensures same { OnOk result (self.new ≡ self.old) }
         ensures lacking { OnlyLacked self.old self.new }
+        ensures dialled { IfOk result (λ target. R.dialled self.old.forwarding.target target.stream.stream) }
         ensures begun { IfOk result (λ target. target.socket ≡ patient self.old.forwarding.patience (fresh_wire false None)) }
         ensures refused { IfErr result (λ failed. failed.why ≡ Unopened.Connect) }
     {
@@ -275,12 +276,13 @@ impl<R: Dial> Sockets<'_, R> {
         ensures same { OnOk result (self.new ≡ self.old) }
         ensures lacking { OnlyLacked self.old self.new }
         ensures watched { OnOk result (wire.new.socket ≡ under token wire.old.socket) }
+        ensures kept { OnOk result (wire.new.stream.stream ≡ wire.old.stream.stream) }
         ensures unwatched { OnErr result (wire.new.socket ≡ wire.old.socket) }
         ensures refused { IfErr result (λ failed. failed.why ≡ Unopened.Register) }
     {
         // A wire without a word for its reports always reads.
         let told = Told::new(&self.told, token.slot(), token.side());
-        match wire.watch(self.waiter.registry(), token, told.unwrap_or(None)) {
+        match wire.watch(self.waiter.poll.registry(), token, told.unwrap_or(None)) {
             Ok(()) => Ok(()),
             Err(error) => {
                 log_failure(rt, Level::Debug, "register", &error);
@@ -398,58 +400,14 @@ fn reports_on<R: Net>(rt: &R, listener: &TcpListener) -> io::Result<(Poll, Waker
     Ok((poll, waker))
 }
 
-/// Sets the words of the events that name reading, and appends the numbers of all tokens to the batch.
-fn put_numbers(batch: &mut Vec<u64>, events: &Events, told: &Reports)
-    requires { vec_len batch.old + length (items events.now) ≤ vec_capacity batch.old }
-    ensures numbers { batch.new.items ≡ batch.old.items ++ numbers (items events.now) }
-    ensures capacity { vec_capacity batch.new ≡ vec_capacity batch.old }
-{
-    for event in events.iter().as_slice() {
-        batch.push_reserved(tell(told, event).number);
-    }
-}
-
-/// A report for the batch: its number, and the word that was set for it, if one was.
-#[derive(Drop)]
-struct Reported {
-    number: u64,
-    heard: Option<Heard>,
-}
-
-/// If the event names reading, sets the word of the end that its number names. The number is given after that, so the
-/// wire knows of the report before the report becomes a note.
-fn tell(told: &Reports, event: &Event) -> Reported
-    ensures number { result.number ≡ (event_token event.now).0 }
-    ensures heard { result.heard ≡ heard_of told.now event.now }
-{
-    let number = event.token().0 as u64;
-    let heard = match end_of(number) {
-        Some(end) if names_reading(event) => told.tell(end.slot(), end.side()),
-        Some(_) | None => None,
-    };
-    Reported { number, heard }
-}
-
-fn end_of(number: u64) -> Option<Token>
-    ensures { result ≡ end_in (name_of number) }
-{
-    match unpack(number)? {
-        Name::End(end) => Some(end),
-        Name::Listener | Name::Waker => None,
-    }
-}
-
-/// Whether an event names reading: something to read, a failure, or a close by the peer, which a read finds out.
-fn names_reading(event: &Event) -> bool
-    ensures { result ≡ names_reading event.now }
-{
-    event.is_readable() || event.is_error() || event.is_read_closed() || event.is_write_closed()
-}
-
-impl<R: Dial> Front for Sockets<'_, R> {
+impl<R: Dial, P: Reporter> Front for Sockets<'_, R, P> {
     ghost seen = { λ s. s.seen };
 
     ghost may_tell = { λ client route. MayTell client.socket.peer route };
+
+    ghost accepted = { λ client. (peer : _) × (client.socket ≡ fresh_wire true (Some peer)) × R.accepted peer client.stream.stream };
+
+    ghost dialled = { λ address target. R.dialled address target.stream.stream };
 
     ghost may_refuse = { λ _ why. (why ≡ Connect) ⊎ (why ≡ Register) };
 
@@ -473,13 +431,14 @@ impl<R: Dial> Front for Sockets<'_, R> {
         ensures reported { batch.new.items ≡ self.new.seen.reported }
         ensures fault { IfErr result (λ error. error_kind error ≢ Interrupted → self.new.seen.failed ≡ true) }
         ensures waited { Waited wait self.old.seen self.new.seen }
+        ensures once { Polls P.did (millis_of wait self.old.seen.longest) self.new.seen.reported self.old.poll self.new.poll }
         ensures here { WaitEnded wait result self.old self.new }
-        ensures same { self.new ≡ record self.old { seen = self.new.seen; left = self.new.left; lacking = self.new.lacking } }
     {
         batch.clear();
         self.busy = let_others_run(self.busy);
         self.waiter.wait(wait)?;
-        put_numbers(batch, self.waiter.events(), &self.told);
+        let poll = &mut self.waiter.poll;
+        put_numbers(batch, poll, &self.waiter.events, &self.told);
         self.count(wait, batch.len());
         Ok(())
     }
@@ -502,7 +461,8 @@ impl<R: Dial> Front for Sockets<'_, R> {
     /// looks for two. After one that lacked memory, it answers as if accept(2) did, until a long wait has passed
     /// without a report, and 16 times at most.
     fn accept(&mut self) -> io::Result<SocketWire>
-        ensures accepted { IfOk result (λ client. (peer : SocketAddr) × (client.socket ≡ fresh_wire true (Some peer))) }
+        ensures accepted { IfOk result (λ client. (peer : SocketAddr) × (client.socket ≡ fresh_wire true (Some peer))
+            × R.accepted peer client.stream.stream) }
         ensures lacking { 1 ≤ self.old.lacking
             → IsErrAnd result (λ error. unaccepted_of (error_kind error) ≡ Starved) }
         ensures none { IfErr result (λ _. Unit {0}) }
@@ -515,10 +475,10 @@ impl<R: Dial> Front for Sockets<'_, R> {
             return Err(io::Error::from(io::ErrorKind::WouldBlock));
         };
         if self.loads.is_short() {
-            look_for_two(self.waiter.registry())?;
+            look_for_two(self.waiter.poll.registry())?;
             self.loads.set_short(false);
         }
-        let (stream, peer) = listener.accept()?;
+        let (stream, peer) = self.rt.accept(listener)?;
         let share = self.loads.share(self.poller);
         Ok(SocketWire::accepted(Socket::of(stream, share), peer))
     }
@@ -535,7 +495,11 @@ impl<R: Dial> Front for Sockets<'_, R> {
         if let Some(listener) = self.listener.take() {
             // The socket stays open if other fronts listen.
             let socket = listener.as_raw_fd();
-            let _ = self.waiter.registry().deregister(&mut SourceFd(&socket));
+            let _ = self
+                .waiter
+                .poll
+                .registry()
+                .deregister(&mut SourceFd(&socket));
             self.loads.close(self.poller);
         }
     }
@@ -548,6 +512,7 @@ impl<R: Dial> Front for Sockets<'_, R> {
         client_token: Token,
         target_token: Token,
     ) -> Result<Opened<SocketWire>, Unopened>
+        ensures dialled { IfOk result (λ opened. R.dialled self.old.seen.target opened.target.stream.stream) }
         ensures opened { IfOk result (λ opened. opened.target.socket
             ≡ under target_token (patient self.old.forwarding.patience (fresh_wire false None))) }
         ensures route { IfOk result (λ opened. IsRoute self.old.forwarding.proxy client.old.socket.peer opened.route) }

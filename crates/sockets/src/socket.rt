@@ -1,4 +1,6 @@
 //! The system's TCP socket as a `Stream`.
+ghost use Rattle.std.specs.Prelude.{◌≡◌};
+
 use crate::loads::Load;
 use crate::options;
 use crate::stream::Stream;
@@ -20,11 +22,15 @@ pub struct Socket {
 
 impl Socket {
     /// A socket that is not reported yet.
-    pub fn new(stream: TcpStream) -> Socket {
+    pub fn new(stream: TcpStream) -> Socket
+        ensures { result.stream ≡ stream }
+    {
         Socket::of(stream, None)
     }
 
-    pub(crate) fn of(stream: TcpStream, share: Option<Arc<Load>>) -> Socket {
+    pub(crate) fn of(stream: TcpStream, share: Option<Arc<Load>>) -> Socket
+        ensures { result.stream ≡ stream }
+    {
         Socket {
             stream,
             told: None,
@@ -39,7 +45,7 @@ impl Socket {
 }
 
 impl Stream for Socket {
-    ghost did = { λ _ _ _. Unit {0} };
+    ghost did = { λ _ old new. new.stream ≡ old.stream };
 
     fn read(&mut self, buffer: &mut [u8]) -> io::Result<usize> {
         io::Read::read(&mut self.stream, buffer)
