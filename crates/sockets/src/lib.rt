@@ -14,8 +14,8 @@
 //! (`names_reading`). Such an event sets the word of the end that its number names, if any (`Reporter::pass_on`:
 //! `heard`). A socket is registered under its token's number, with that token's word (`watch`: `registered`). A poll
 //! waits once, for as long as is asked for, and passes on all that the wait gave (`poll`: `once`). `bind` asks the
-//! system to listen at the settings' address and no other (`listen`). A socket that was passed is looked at before it is
-//! used (`look_at`). A client is connected to the address that its front shows as the target (`Dial`: `dialled`).
+//! system to listen at the settings' address and no other (`listen`). A socket that was passed is looked at before it
+//! is used (`look_at`). A client is connected to the address that its front shows as the target (`Dial`: `dialled`).
 #![tactic(auto)]
 
 mod bound;
