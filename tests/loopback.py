@@ -27,6 +27,8 @@ STARTED_LINE = re.compile(r"\[INFO  relayd\] relayd \d")
 # Has a program run with a descriptor as its third, and in the variable that names the process.
 PASS = """import os, sys
 os.dup2(int(sys.argv[1]), 3)
+if sys.argv[1] != "3":
+    os.close(int(sys.argv[1]))
 os.set_inheritable(3, True)
 os.environ.setdefault("LISTEN_PID", str(os.getpid()))
 os.execvp(sys.argv[2], sys.argv[2:])"""

@@ -51,7 +51,7 @@ def has_all_options(is_typed):
     assert having(lines, "] input: ") == [] if is_typed else len(having(lines, "] input: has ended")) == 1
     counts = [numbers_in(line) for line in having(lines, "[INFO  relayd] stats ")]
     wanted = {"open": 0, "slots": 128, "opened": 4, "done": 1, "failed": 3, "dropped": 0, "client": 1, "target": 1, "refused": 0}
-    assert counts[-1] == wanted | {"reset": 1, "timedout": 1, "idle": 1, "up": sum(sent) + 3, "down": 5}
+    assert counts[-1] == wanted | {"reset": 1, "timedout": 1, "idle": 1, "up": sum(sent) + 3, "down": 5, "waited": 0, "lost": 0}
     assert (ended - begun) / seconds - 1.5 <= len(counts) - 1 <= (ended - started) / seconds + 1.5, (len(counts), ended - begun)
     assert as_line(read(file.name)) == counts[-1]
     assert len(having(lines, "[INFO  relayd] peer ")) == len(having(lines, "[INFO  relayd] gone ")) == 4
