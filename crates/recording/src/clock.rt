@@ -1,5 +1,5 @@
 // A clock that records its readings, and a gate that records turns.
-ghost use Rattle.std.specs.Prelude.{IsTrue, [], ◌∷◌};
+ghost use Rattle.std.specs.Prelude.{◌≡◌, IsTrue, [], ◌∷◌};
 ghost use Rattle.records.specs.declared.act.Act.TheVariants.{Second};
 ghost use Rattle.recording.specs.Records.{Beside, Records, RecordsAtOnce};
 ghost use Rattle.records.specs.declared.act.Act.TheVariants as act;
@@ -18,7 +18,10 @@ pub struct RecordedClock<'r, C, S: Sink> {
 
 impl<'r, C, S: Sink> RecordedClock<'r, C, S> {
     /// Records what `inner` tells, if there is an idle limit.
-    pub fn new(inner: &'r C, recorder: Recorder<S>, has_limit: bool) -> RecordedClock<'r, C, S> {
+    pub fn new(inner: &'r C, recorder: Recorder<S>, has_limit: bool) -> RecordedClock<'r, C, S>
+        ensures inner { result.inner.now ≡ inner.now }
+        ensures limit { result.has_limit ≡ has_limit }
+    {
         RecordedClock {
             inner: Inner::new(inner),
             recorder,
@@ -40,10 +43,12 @@ impl<C, S: Sink> Drop for RecordedClock<'_, C, S> {
 }
 
 impl<C: Clock, S: Sink> Clock for RecordedClock<'_, C, S> {
-    ghost tells = { λ clock second. C.tells clock.inner.now second
-        × (IsTrue clock.has_limit → Beside S.did (Records S.did (Second second ∷ [])) clock.recorder.sink) };
+    ghost tells = { λ clock second. C.tells clock.inner.now second };
 
-    fn second(&self) -> u64 {
+    fn second(&self) -> u64
+        ensures tells { C.tells self.now.inner.now result }
+        ensures recorded { IsTrue self.now.has_limit → Beside S.did (Records S.did (Second result ∷ [])) self.now.recorder.sink }
+    {
         let mut recorder = self.recorder.another();
         let begun = if self.has_limit {
             recorder.begin()
@@ -71,19 +76,25 @@ impl<'r, G, S> RecordedGate<'r, G, S> {
 }
 
 impl<G: Gate, S: Sink> Gate for RecordedGate<'_, G, S> {
+    ghost began = { λ gate slot. G.began gate.inner.now slot };
+
+    ghost ended = { λ gate slot. G.ended gate.inner.now slot };
+
     fn all_started(&self) {
         self.inner.all_started();
     }
 
     fn before_turn(&self, slot: usize)
-        ensures { Beside S.did (RecordsAtOnce S.did (act.Begin slot)) self.now.recorder.sink }
+        ensures began { G.began self.now.inner.now slot }
+        ensures recorded { Beside S.did (RecordsAtOnce S.did (act.Begin slot)) self.now.recorder.sink }
     {
         self.inner.before_turn(slot);
         self.recorder.another().record_at_once(Act::Begin(slot));
     }
 
     fn after_turn(&self, slot: usize)
-        ensures { Beside S.did (RecordsAtOnce S.did (act.End slot)) self.now.recorder.sink }
+        ensures ended { G.ended self.now.inner.now slot }
+        ensures recorded { Beside S.did (RecordsAtOnce S.did (act.End slot)) self.now.recorder.sink }
     {
         self.inner.after_turn(slot);
         self.recorder.another().record_at_once(Act::End(slot));

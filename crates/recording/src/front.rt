@@ -1,5 +1,5 @@
 // A front that records its waits, accepts and openings.
-ghost use Rattle.std.specs.{Prelude.{◌≡◌, ◌≢◌, ◌≤◌, Some, None, true, [], ◌∷◌, IfOk, IfErr, OnErr, vec_len, vec_capacity}, IoError.error_kind, declared.io.ErrorKind.TheVariants.Interrupted};
+ghost use Rattle.std.specs.{Prelude.{◌≡◌, ◌≢◌, ◌≤◌, Some, None, true, [], ◌∷◌, IfOk, IfErr, OnErr, length, map, vec_len, vec_capacity}, List.range_with_len, IoError.error_kind, declared.io.ErrorKind.TheVariants.Interrupted};
 ghost use Rattle.recording.specs.Records.{accepted, not_accepted, not_waited, opened as opened_of, Records, RecordsPoll};
 ghost use Rattle.common.specs.Told.{unaccepted_of, Waited};
 ghost use Rattle.records.specs.declared.act.Act.TheVariants as act;
@@ -24,21 +24,18 @@ pub struct RecordedFront<F: Drop, S: Sink> {
 }
 
 /// Wraps each of these fronts in one that records, in order. Their pollers are numbered from 0.
-pub fn record_all<F: Drop, S: Sink>(
+pub fn record_all<F: Front + Drop, S: Sink>(
     alloc: Global,
-    mut fronts: Vec<F>,
+    fronts: Vec<F>,
     recorder: &Recorder<S>,
 ) -> Result<Vec<RecordedFront<F, S>>, AllocError>
-    ensures { IfOk result (λ all. vec_len all ≡ vec_len fronts) }
+    ensures seen { IfOk result (λ all. map (λ front. F.seen front.inner) all.items ≡ map F.seen fronts.items) }
+    ensures numbers { IfOk result (λ all. map (λ front. front.poller) all.items ≡ range_with_len 0 (length fronts.items)) }
 {
-    let count = fronts.len();
-    let mut all = Vec::with_capacity(alloc, count)?;
-    fronts.reverse();
-    for poller in 0..count {
-        match fronts.pop() {
-            Some(inner) => all.push_reserved(recorded(inner, poller, recorder)),
-            None => unreachable!(),
-        }
+    let mut all = Vec::with_capacity(alloc, fronts.len())?;
+    for front in fronts {
+        let poller = all.len();
+        all.push_reserved(recorded(front, poller, recorder));
     }
     Ok(all)
 }
@@ -110,6 +107,8 @@ impl<F: Front + Drop, S: Sink> Front for RecordedFront<F, S> {
 
     ghost may_refuse = { λ client why. F.may_refuse client.inner why };
 
+    ghost gave_none = { F.gave_none };
+
     ghost lacked = { F.lacked };
 
     ghost woke = { λ waker slot. F.woke waker slot };
@@ -155,6 +154,7 @@ impl<F: Front + Drop, S: Sink> Front for RecordedFront<F, S> {
     fn accept(&mut self) -> io::Result<RecordedWire<F::Client, S>>
         ensures seen { F.seen self.new.inner ≡ F.seen self.old.inner }
         ensures accepted { IfOk result (λ client. F.accepted client.inner) }
+        ensures none { IfErr result (λ error. F.gave_none (unaccepted_of (error_kind error))) }
         ensures unnamed { IfOk result (λ client. client.name ≡ None) }
         ensures recorded { Records S.did (act.Poller self.old.poller (polling.Accept (accepted result)) ∷ [])
             self.old.recorder.sink self.new.recorder.sink }

@@ -1,14 +1,15 @@
 //! What the program lends the server.
+ghost use Rattle.std.specs.Prelude.{IfNone, IfSome};
+ghost use Rattle.server.specs.Serves.{Serves};
+
 use libc::types::timespec;
 use program::{Beside, Given};
 use server::{Clock, Lent, Outcome, System, serve_recorded};
 
 /// Serves with what is given, and with what runs beside the server.
-pub fn serve<R: System>(
-    rt: &R,
-    beside: &Beside<HostRuntime>,
-    given: Given<HostRuntime>,
-) -> Outcome {
+pub fn serve<R: System>(rt: &R, beside: &Beside<HostRuntime>, given: Given<HostRuntime>) -> Outcome
+    ensures { IfNone given.files (IfSome result.served (Serves given.settings (λ second. Unit {0}))) }
+{
     let (settings, extras) = (given.settings, given.extras);
     let lent = Lent {
         rt,

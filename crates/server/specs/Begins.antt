@@ -20,10 +20,15 @@ abbrev pub all_begun : Settings → Split → ℕ → List Seen → List PollerS
 all_begun settings split number [] = []
 all_begun settings split number (shown ∷ more) = begun settings split number shown ∷ all_begun settings split (number + 1) more
 
+-- for each part of the slots, the ends of a queue that holds them in order: one for its poller, one for each worker
+abbrev pub free_ends : Settings → Split → List (List (EndState ℕ))
+free_ends settings split = each_part split.slots split.size
+    (λ part. opened part.first part.slots ∷ replicate settings.workers (unused part.slots))
+
 -- What threads are made from: for each poller and each worker a seat and an end of the queue of tickets, and for each
 -- part a queue that holds its slots in order, with an end for its poller and one for each worker. All are as new
 pub record ThreadsBegin (settings : Settings) (split : Split) (claims : TableId) (parts : Parts)
     (ends : List (List (EndState ℕ))) : Type 0 where
   pub seats : parts.seats.items ≡ replicate (parts_of split.slots split.size + settings.workers) (fresh_seat claims)
   pub ready : parts.ready.items ≡ replicate (parts_of split.slots split.size + settings.workers) (unused settings.slots)
-  pub free : ends ≡ each_part split.slots split.size (λ part. opened part.first part.slots ∷ replicate settings.workers (unused part.slots))
+  pub free : ends ≡ free_ends settings split

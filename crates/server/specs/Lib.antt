@@ -1,3 +1,4 @@
 -- The crate's definitions. A file that the promises do not need says so at its head.
 pub mod Begins
 pub mod Limits
+pub mod Serves

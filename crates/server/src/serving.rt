@@ -1,5 +1,6 @@
 //! A server over the system's sockets, from its settings to its end, which may record what its threads do.
-ghost use Rattle.std.specs.Prelude.{◌≡◌, length};
+ghost use Rattle.std.specs.Prelude.{◌≡◌, IfNone, IfOk, IfSome, length, map};
+ghost use Rattle.server.specs.{Begins.{all_begun, free_ends}, Serves.{Deals, RanAs, Serves}};
 ghost use Rattle.sizes.specs.Pollers.{pollers_for};
 
 use crate::making::{build, split_of};
@@ -69,7 +70,9 @@ pub fn serve<R: System, G: Gate + Sync, C: Clock + Sync>(
     settings: &Settings,
     bound: Bound,
     lent: Lent<'_, R, G, C>,
-) -> Outcome {
+) -> Outcome
+    ensures served { IfSome result.served (Serves settings.now (C.tells lent.entry.clock.now)) }
+{
     lent.serve(settings, bound, None)
 }
 
@@ -84,7 +87,9 @@ pub fn serve_recorded<R: System, G: Gate + Sync, C: Clock + Sync, P: Parts + Sen
     lent: Lent<'_, R, G, C>,
     files: Option<P>,
     most: u64,
-) -> Outcome {
+) -> Outcome
+    ensures served { IfNone files (IfSome result.served (Serves settings.now (C.tells lent.entry.clock.now))) }
+{
     let Some(files) = files else {
         return serve(settings, bound, lent);
     };
@@ -160,7 +165,9 @@ where
 
 impl<R: System, G: Gate + Sync, C: Clock + Sync> Lent<'_, R, G, C> {
     /// Serves on the bound socket. If there is a queue, what is done is recorded into it.
-    fn serve(self, settings: &Settings, bound: Bound, queue: Option<&RecordQueue>) -> Outcome {
+    fn serve(self, settings: &Settings, bound: Bound, queue: Option<&RecordQueue>) -> Outcome
+        ensures served { IfSome result.served (Serves settings.now (C.tells self.entry.clock.now)) }
+    {
         let split = split_of(settings);
         let forwarding = Forwarding::of(settings, self.patience);
         match open_all(self.rt, self.alloc, bound, forwarding, split, self.stop) {
@@ -182,24 +189,23 @@ impl<R: Wait + Threads + Log + Sync, G: Gate + Sync, C: Clock + Sync> Lent<'_, R
         F::Target: Send,
         F::Waker: Send + Sync,
         requires { length fronts.items ≡ pollers_for settings.now.slots settings.now.workers }
+        ensures ran { IfSome result.served (RanAs settings.now (C.tells self.entry.clock.now) F.gave_none (map F.seen fronts.items)) }
     {
         match self.server(settings, fronts, waker) {
-            Ok(server) => self.run_made(settings, server),
+            Ok(server) => {
+                let (clock, limit) = (self.clock, u64::from(settings.idle));
+                let stop = self.stop.flag();
+                run_threads(
+                    self.rt,
+                    self.alloc,
+                    self.gate,
+                    Timing { clock, limit },
+                    stop,
+                    server,
+                )
+            }
             Err(fault) => Outcome::refused(fault),
         }
-    }
-
-    fn run_made<F>(self, settings: &Settings, server: Server<F>) -> Outcome
-    where
-        F: Front + Drop + Send,
-        F::Client: Send,
-        F::Target: Send,
-        F::Waker: Send + Sync,
-    {
-        let (clock, limit) = (self.clock, u64::from(settings.idle));
-        let timing = Timing { clock, limit };
-        let stop = self.stop.flag();
-        run_threads(self.rt, self.alloc, self.gate, timing, stop, server)
     }
 
     /// Runs a server with these fronts, one for each poller, and records what they, the gate and the clock do.
@@ -217,6 +223,7 @@ impl<R: Wait + Threads + Log + Sync, G: Gate + Sync, C: Clock + Sync> Lent<'_, R
         F::Waker: Send + Sync,
         R: time::Clock,
         requires { length fronts.items ≡ pollers_for settings.now.slots settings.now.workers }
+        ensures ran { IfSome result.served (RanAs settings.now (C.tells self.entry.clock.now) F.gave_none (map F.seen fronts.items)) }
     {
         let recorder = Recorder::new(QueueSink::new(self.rt, queue));
         let Ok(fronts) = record_all(self.alloc, fronts, &recorder) else {
@@ -246,6 +253,11 @@ impl<R: Wait, G, C> Lent<'_, R, G, C> {
         waker: F::Waker,
     ) -> Result<Server<F>, ServerFault>
         requires { length fronts.items ≡ pollers_for settings.now.slots settings.now.workers }
+        ensures split { IfOk result (λ made. Deals settings.now made.split) }
+        ensures slots { IfOk result (λ made. made.shared.claims.words ≡ settings.now.slots) }
+        ensures free { IfOk result (λ made. map (λ ends. ends.items) made.free.items ≡ free_ends settings.now made.split) }
+        ensures pollers { IfOk result (λ made. made.pollers.items ≡ all_begun settings.now made.split 0 (map F.seen fronts.items)) }
+        ensures workers { IfOk result (λ made. made.workers ≡ settings.now.workers) }
     {
         let statistics = another(self.statistics)?;
         let split = split_of(settings);

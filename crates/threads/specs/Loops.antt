@@ -42,11 +42,6 @@ abbrev pub IsTold : {C : Type 0} → ℕ → ℕ → Why → Option Announced �
 IsTold mark number why recorded closed = (recorded ≡ option_map (λ fault. announced mark (number, fault)) (fault_by why))
     × (EndsAll why → IsSome closed)
 
--- of two faults, each with its thread's number, the lower number's; of one thread's faults the first
-abbrev pub lowest : Option (ℕ × ServerFault) → ℕ × ServerFault → ℕ × ServerFault
-lowest None new = new
-lowest (Some kept) new = if nat_lt new.0 kept.0 then new else kept
-
 -- every poller was woken, each by the first of its slots
 abbrev pub AllWoken : (ℕ → Type 0) → Split → Type 0
 AllWoken woken split = (poller : ℕ) → poller < parts_of split.slots split.size → woken (part_of split.slots split.size poller).first

@@ -1,11 +1,12 @@
 -- How the parts of a server are run to their ends, each in a thread of its own.
-use Rattle.std.specs.{Prelude.{◌≡◌, ℕ, Bool, All, List, [], ◌++◌, length, map, Option, None, option_to_list}, List.{range_with_len}}
+use Rattle.std.specs.{Prelude.{◌≡◌, ℕ, nat_lt, if◌then◌else◌, Bool, All, List, [], ◌++◌, fold, length, map, Option, None, Some, option_map, option_to_list}, List.{range_with_len}, Option.is_some}
 use Rattle.claims.specs.Seats.{SeatState}
 use Rattle.ready.specs.Steps.{EndState}
 use Rattle.common.specs.declared.shared.Own.{Own}
 use Rattle.rounds.specs.Pollers.{PollerState}
 use Rattle.common.specs.declared.front.Unaccepted.{Unaccepted}
-use Rattle.threads.specs.{declared.{context.ThreadEnd.ThreadEnd, faults.Few.Few, running.Served.Served, working.Owned.Owned}, Divided.{HasOneOfEach, IsEndOf, OfFirst, ends_of, numbered}, Loops.{EndsWell, PollerRan, RunMade, WorkerEnded}}
+use Rattle.threads.specs.{declared.{context.ThreadEnd.ThreadEnd, faults.Few.Few, running.Served.Served, working.Owned.Owned}, Divided.{HasOneOfEach, IsEndOf, OfFirst, ends_of, numbered}, Loops.{EndsWell, PollerRan, RunMade, WorkerEnded, fault_by}}
+use Rattle.sizes.specs.declared.faults.ServerFault.{ServerFault, TheVariants.{Threads}}
 
 -- what a poller's thread begins with
 pub record PollerPart : Type 0 where
@@ -62,6 +63,24 @@ pub record AllRan {P W : Type 0} (poller_runs : P → ThreadEnd → Type 0) (wor
   pub others_ran : RanToEnds poller_runs served.few others served.pollers.items
   pub first_ran : OfFirst poller_runs first (option_to_list served.first) []
   pub has_first : served.first ≡ None → pollers ≡ []
+
+-- of two faults, each with its thread's number, the lower number's; of one thread's faults the first
+abbrev pub lowest : Option (ℕ × ServerFault) → ℕ × ServerFault → ℕ × ServerFault
+lowest None new = new
+lowest (Some kept) new = if nat_lt new.0 kept.0 then new else kept
+
+-- of the fault that is kept and the one that this thread met, if it met one, the lower number's
+abbrev pub met_by : Option (ℕ × ServerFault) → ℕ → Option ServerFault → Option (ℕ × ServerFault)
+met_by kept number None = kept
+met_by kept number (Some fault) = Some (lowest kept (number, fault))
+
+abbrev pub met : Option (ℕ × ServerFault) → ThreadEnd → Option (ℕ × ServerFault)
+met kept end = met_by kept end.number (fault_by end.why)
+
+-- the fault that ended a server: the lack of a thread, or of all that its threads met the lowest number's
+abbrev pub fault_of : Served → Option ServerFault
+fault_of served = if is_some served.few then Some Threads else option_map (λ (first : ℕ × ServerFault). first.1)
+    (fold met None (served.pollers.items ++ option_to_list served.first ++ served.workers.items))
 
 -- this promise is of this part, and of what its thread is handed
 abbrev pub IsOf : {P X : Type 0} → X → P → X → P → Type 0

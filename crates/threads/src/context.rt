@@ -1,12 +1,12 @@
 //! What every thread of a server is handed, and how a fault of one ends the others.
 ghost use Rattle.std.specs.Prelude.{◌≡◌, Bool};
-ghost use Rattle.threads.specs.Loops.{AllWoken, EndsAll, IsTold};
+ghost use Rattle.threads.specs.{Loops.{AllWoken, EndsAll, IsTold}, Served.met};
 
 use crate::ending::{Ended, Ending, Why};
 use crate::faults::Recorded;
 use common::{Front, Shared, Timing};
 use ready::{Closed, ReadyQueue};
-use sizes::Split;
+use sizes::{ServerFault, Split};
 use std::alloc::Global;
 use std::sync::Wait;
 use std::sync::atomic::AtomicBool;
@@ -65,6 +65,19 @@ impl Told<'_> {
         ThreadEnd {
             number: self.number,
             why: self.why,
+        }
+    }
+}
+
+impl ThreadEnd {
+    /// The fault that is kept, or the one that this thread met, if its number is lower.
+    pub(crate) fn lowest(&self, kept: Option<(usize, ServerFault)>) -> Option<(usize, ServerFault)>
+        ensures { result ≡ met kept self.now }
+    {
+        match (kept, &self.why) {
+            (Some((number, fault)), Why::Met(_)) if number <= self.number => Some((number, fault)),
+            (_, Why::Met(fault)) => Some((self.number, *fault)),
+            _ => kept,
         }
     }
 }

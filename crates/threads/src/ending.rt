@@ -1,12 +1,10 @@
 //! How the threads of a server come to their end: why the loop of each ends, and what becomes of a fault.
-ghost use Rattle.std.specs.Prelude.{◌≡◌, ◌↔◌, IfOk, IfErr, IfSome, IsSome, IsTrue, OnErr, OnOk, None, Some, option_map, true, false};
+ghost use Rattle.std.specs.Prelude.{◌≡◌, ◌↔◌, IfOk, IfErr, IfSome, IsTrue, OnErr, OnOk, None, option_map, true, false};
 ghost use Rattle.common.specs.Outgoing.{PutAll};
 ghost use Rattle.ready.specs.Steps.{HeldOnce};
-ghost use Rattle.sizes.specs.declared.faults.ServerFault.{ServerFault};
 ghost use Rattle.threads.specs.Loops.{EndsAll, Took, announced, fault_by};
 
-use crate::faults::{Found, Lowest, Outcome, Recorded};
-use crate::running::Served;
+use crate::faults::{Found, Recorded};
 use common::{Front, Own};
 use ready::Ticket;
 use rounds::Poller;
@@ -14,7 +12,7 @@ use sizes::ServerFault;
 use std::marker::Model;
 use std::sync::atomic::AtomicUsize;
 use std::sync::atomic::Ordering::SeqCst;
-use std::sync::{Mutex, OnceLock, Wait};
+use std::sync::{OnceLock, Wait};
 
 /// Why a thread's loop ended.
 #[derive(Drop)]
@@ -41,7 +39,6 @@ pub struct Ended {
 #[derive(Drop)]
 pub struct Ending {
     recorded: OnceLock<()>,
-    first: Mutex<Lowest>,
     polling: AtomicUsize,
 }
 
@@ -125,7 +122,6 @@ impl Ending {
     pub fn new(pollers: usize) -> Ending {
         Ending {
             recorded: OnceLock::new(),
-            first: Mutex::new(Lowest::new()),
             polling: AtomicUsize::new(pollers),
         }
     }
@@ -151,8 +147,7 @@ impl Ending {
     pub(crate) fn record(&self, rt: &impl Wait, number: usize, fault: ServerFault) -> Recorded<'_>
         ensures { result ≡ announced self.now (number, fault) }
     {
-        let kept = self.first.lock(rt).keep(number, fault);
-        kept.announce(rt, &self.recorded)
+        Recorded::at(rt, &self.recorded, number, fault)
     }
 
     /// Whether a fault is recorded.
@@ -191,12 +186,5 @@ impl Ending {
     /// A poller has ended. Returns whether it was the last.
     pub(crate) fn leave(&self) -> bool {
         self.polling.fetch_sub(1, SeqCst) <= 1
-    }
-
-    pub(crate) fn outcome(self, served: Served) -> Outcome
-        ensures few { IfSome result.served (λ served. IsSome served.few → result.fault ≡ Some ServerFault.Threads) }
-        ensures served { result.served ≡ Some served }
-    {
-        self.first.into_inner().outcome(served)
     }
 }

@@ -1,6 +1,6 @@
-//! What becomes of a fault: it is kept, unless a thread with a lower number has met one, and a mark is set.
-ghost use Rattle.std.specs.{Prelude.{◌≡◌, ◌↔◌, IfErr, IsOk, None, Some, if◌then◌else◌, option_map}, Option.is_some};
-ghost use Rattle.threads.specs.Loops.{announced, lowest};
+//! What becomes of a fault: a mark is set, and of all that threads met the lowest number's ends the server.
+ghost use Rattle.std.specs.{Prelude.{◌≡◌, ◌↔◌, IfErr, IsOk, None, Some}};
+ghost use Rattle.threads.specs.{Loops.announced, Served.fault_of};
 
 use crate::running::Served;
 use sizes::ServerFault;
@@ -8,19 +8,7 @@ use std::marker::Model;
 use std::snapshot::Snapshot;
 use std::sync::{OnceLock, OnceToken, Wait};
 
-/// The lowest number of a thread that met a fault, and the fault.
-#[derive(Drop)]
-pub(crate) struct Lowest {
-    kept: Option<(usize, ServerFault)>,
-}
-
-/// A fault was compared with the kept one. Only [`Lowest::keep`] makes this value, and it cannot be dropped.
-pub(crate) struct Kept {
-    number: usize,
-    fault: ServerFault,
-}
-
-/// A fault is recorded, and a mark is set, as the token shows. Only [`Kept::announce`] makes this value.
+/// A fault is recorded, and a mark is set, as the token shows. Only [`Recorded::at`] makes this value.
 ///
 /// In a clause it is the number of the thread that met the fault, the fault, and which mark is set.
 #[derive(Drop)]
@@ -79,7 +67,7 @@ impl Recorded<'_> {
 }
 
 /// How a server ended: well; or for want of a thread; or by a fault that threads met, the lowest number's; or by what
-/// refused the server before it served. Once threads have run, [`Lowest::outcome`] makes this value. It cannot be
+/// refused the server before it served. Once threads have run, [`Outcome::of`] makes this value. It cannot be
 /// dropped, so whoever serves returns it.
 pub struct Outcome {
     fault: Option<ServerFault>,
@@ -87,49 +75,16 @@ pub struct Outcome {
     served: Option<Served>,
 }
 
-impl Lowest {
-    pub(crate) const fn new() -> Lowest
-        ensures { result.kept ≡ None }
-    {
-        Lowest { kept: None }
-    }
-
-    /// Compares the fault of the thread with this number with the one that is kept, and keeps that of the lower number.
-    pub(crate) fn keep(&mut self, number: usize, fault: ServerFault) -> Kept
-        ensures kept { self.new.kept ≡ Some (lowest self.old.kept (number, fault)) }
-        ensures same { result ≡ record { number = number; fault = fault } }
-    {
-        let first = match self.kept {
-            Some((other, earlier)) if other <= number => (other, earlier),
-            _ => (number, fault),
-        };
-        self.kept = Some(first);
-        Kept { number, fault }
-    }
-
-    /// How the server ended, once all its threads have ended: by the lack of a thread, or the fault that was kept.
-    pub(crate) fn outcome(self, served: Served) -> Outcome
-        ensures fault { result.fault ≡ if is_some served.few then Some ServerFault.Threads
-            else option_map (λ first. first.1) self.kept }
-        ensures served { result.served ≡ Some served }
-    {
-        let fault = match served.few {
-            Some(_) => Some(ServerFault::Threads),
-            None => self.kept.map(|(_, fault)| fault),
-        };
-        Outcome {
-            fault,
-            served: Some(served),
-        }
-    }
-}
-
-impl Kept {
+impl<'a> Recorded<'a> {
     /// Sets the mark: each thread that looks at it from now on finds that there is a fault.
-    pub(crate) fn announce<'a>(self, rt: &impl Wait, mark: &'a OnceLock<()>) -> Recorded<'a>
-        ensures { result ≡ announced mark.now.id (self.number, self.fault) }
+    pub(crate) fn at(
+        rt: &impl Wait,
+        mark: &'a OnceLock<()>,
+        number: usize,
+        fault: ServerFault,
+    ) -> Recorded<'a>
+        ensures { result ≡ announced mark.now.id (number, fault) }
     {
-        let Kept { number, fault } = self;
         let marked = match mark.try_insert(rt, ()) {
             Ok(marked) => marked,
             Err((marked, ())) => marked,
@@ -143,6 +98,17 @@ impl Kept {
 }
 
 impl Outcome {
+    /// The outcome of a server whose threads ended so: the lack of a thread, or what the thread with the lowest number met.
+    pub(crate) fn of(served: Served) -> Outcome
+        ensures fault { result.fault ≡ fault_of served }
+        ensures served { result.served ≡ Some served }
+    {
+        Outcome {
+            fault: served.fault(),
+            served: Some(served),
+        }
+    }
+
     /// The outcome of a server that was refused before it served.
     pub fn refused(fault: ServerFault) -> Outcome
         ensures fault { result.fault ≡ Some fault }

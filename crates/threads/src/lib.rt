@@ -14,10 +14,9 @@
 //! `Context::end` takes it: a fault is recorded under its thread's number, and the mark is set at which all threads
 //! look, as a token of that mark shows; a thread that met a fault or found one closes the queue of tickets (`told`),
 //! and wakes every poller (`woken`). What it told (`Told`) is what `run` returns; a poller that leaves has told
-//! before (`leave`). The lowest number's fault is kept (`Lowest::keep`), and says how a server ended, once all its
-//! threads have (`Served`). Each part is run to its end, in a thread of its own or the
-//! caller's (`run_threads`: `ran`). If a thread could not be started, the first parts have one, and the outcome is the
-//! fault `Threads` (`few`).
+//! before (`leave`). Each part is run to its end, in a thread of its own or the caller's (`run_threads`: `ran`). If a
+//! thread could not be started, the first parts have one. Once all have ended (`Served`), the outcome is read off their
+//! ends: the lack of a thread, or the fault that the lowest number met (`run_threads`: `fault`).
 //!
 //! Each round, turn and taking of a ticket requires a look of its own that found no fault (`NoFault`); a worker's
 //! turn requires a look after the taking (`Cleared`). A poller counts its sweeps from a second that the clock gave

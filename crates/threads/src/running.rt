@@ -1,8 +1,8 @@
 //! A server's threads, from the first to the last.
-ghost use Rattle.std.specs.Prelude.{◌≡◌, ℕ, List, [], IfOk, IfSome, IsSome, None, Some, map, option_to_list};
+ghost use Rattle.std.specs.Prelude.{◌≡◌, ℕ, List, [], IfOk, IfSome, None, fold, map, option_to_list};
 ghost use Rattle.claims.specs.Seats.{fresh_seat};
 ghost use Rattle.common.specs.Posts.{AreFresh};
-ghost use Rattle.threads.specs.{Divided.OfFirst, Loops.{announced}, Served.{AllRan, IsDivided, PollerPart, PollerRuns, WorkerPart, WorkerRuns, poller_part, worker_part}};
+ghost use Rattle.threads.specs.{Divided.OfFirst, Loops.{announced}, Served.{AllRan, IsDivided, fault_of, met, PollerPart, PollerRuns, WorkerPart, WorkerRuns, poller_part, worker_part}};
 
 use crate::context::{Context, StopFlag, ThreadEnd};
 use crate::dividing::divide;
@@ -63,7 +63,7 @@ where
         server.workers pollers workers × AllRan
         (PollerRuns (S.said is_stopped.now) (C.tells timing.entry.clock.now) F.gave_none timing.entry.limit mark)
         (WorkerRuns mark) pollers workers served) }
-    ensures few { IfSome result.served (λ served. IsSome served.few → result.fault ≡ Some ServerFault.Threads) }
+    ensures fault { IfSome result.served (λ served. result.fault ≡ fault_of served) }
 {
     let (split, count) = (server.split, server.pollers.len());
     let (pollers, workers) = match divide(alloc, server) {
@@ -83,7 +83,7 @@ where
     let served = run_all(rt, alloc, &context, pollers, workers);
     drop(context);
     match served {
-        Ok(served) => ending.outcome(served),
+        Ok(served) => Outcome::of(served),
         Err(fault) => Outcome::refused(fault),
     }
 }
@@ -97,6 +97,37 @@ pub(crate) struct Served {
     workers: Vec<ThreadEnd>,
     /// Of the first poller, which ran in the thread that serves.
     first: Option<ThreadEnd>,
+}
+
+impl Served {
+    /// The lack of a thread, or the fault that the thread with the lowest number met.
+    pub(crate) fn fault(&self) -> Option<ServerFault>
+        ensures { result ≡ fault_of self.now }
+    {
+        if self.few.is_some() {
+            return Some(ServerFault::Threads);
+        }
+        let met = lowest_met(None, &self.pollers);
+        let met = match &self.first {
+            Some(first) => first.lowest(met),
+            None => met,
+        };
+        let (_, fault) = lowest_met(met, &self.workers)?;
+        Some(fault)
+    }
+}
+
+/// Of the fault that is kept, and of those that met one, the lowest number's.
+fn lowest_met(
+    mut kept: Option<(usize, ServerFault)>,
+    ends: &[ThreadEnd],
+) -> Option<(usize, ServerFault)>
+    ensures { result ≡ fold met kept ends.now }
+{
+    for end in ends {
+        kept = end.lowest(kept);
+    }
+    kept
 }
 
 impl<'a, F: Front, G: Gate, C: Clock, R: Wait + Log, S: StopFlag> Part<Context<'a, G, C, R, S>>

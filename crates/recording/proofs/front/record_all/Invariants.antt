@@ -1,9 +1,12 @@
-use Rattle.std.{proofs.Common.{◌≡◌, ◌+◌, ◌≤◌}, specs.Prelude.{vec_len, vec_capacity}}
+use Rattle.std.{proofs.Common.{◌≡◌, ◌+◌, ◌≤◌, ◌++◌, length, map}, specs.{List.range_with_len, Prelude.{vec_capacity}, Vec.Iter.{into_iter_items, into_iter_len}}}
 use Rattle.recording.proofs.front.record_all.Given as goal
 
-abbrev pub invariant-loop-poller : goal.invariant-loop-poller
-invariant-loop-poller g l = record {
-  left : vec_len l.fronts + l.poller ≡ vec_len l.fn.fronts;
-  len : vec_len l.all ≡ l.poller;
-  room : vec_len l.fn.fronts ≤ vec_capacity l.all;
+-- those that are made, and then those that the other fronts will be made into
+abbrev pub invariant-loop-front : goal.invariant-loop-front
+invariant-loop-front g l = record {
+  left : length l.all.items + into_iter_len l.front-iterator ≡ length l.fn.fronts.items;
+  room : length l.fn.fronts.items ≤ vec_capacity l.all;
+  seen : map (λ front. g.F.Front.seen front.inner) l.all.items ++ map g.F.Front.seen (into_iter_items l.front-iterator)
+      ≡ map g.F.Front.seen l.fn.fronts.items;
+  numbers : map (λ front. front.poller) l.all.items ≡ range_with_len 0 (length l.all.items);
 }

@@ -5,7 +5,7 @@ use Rattle.threads.proofs.running.run_threads.Goals as goal
 pub returns-in-Ok-served-clause-ran : goal.returns-in-Ok-served-clause-ran
 returns-in-Ok-served-clause-ran g c =
     let made = c.in-Ok.threads in
-    rw c.outcome.ensures.served (
+    rw c.of.ensures.served (
       c.new-ending.result,
       map (λ p. poller_part p.number p.poller p.own) made.0.items,
       map (λ w. worker_part w.number w.owned) made.1.items,
