@@ -4,9 +4,10 @@
  * the C library makes for itself are neither counted nor refused, but with GROWTHS_OF_ALL. The count stands in the 8 bytes
  * of the file GROWTHS_COUNT, also where the program ends by a signal.
  *
- * With MOST_THREADS so many threads can be started, and no more. With TIMES_FASTER clocks go so many times as fast. With
- * POLL_FAILS the call of epoll_wait(2) with this number fails, counted from 1 over all threads, and with REGISTER_FAILS that
- * call of epoll_ctl(2). With CONNECTS_LACK so many calls of connect(2) fail for want of the system's memory, and then none. */
+ * With MOST_THREADS so many threads can be started, and no more. With TIMES_FASTER clocks go so many times as fast, but for
+ * the wall's, and with WALL_TIMES_FASTER the wall's alone. With POLL_FAILS the call of epoll_wait(2) with this number fails,
+ * counted from 1 over all threads, and with REGISTER_FAILS that call of epoll_ctl(2). With CONNECTS_LACK so many calls of
+ * connect(2) fail for want of the system's memory, and then none. */
 #define _GNU_SOURCE
 #include <dlfcn.h>
 #include <errno.h>
@@ -110,7 +111,7 @@ int connect(int made, const struct sockaddr *to, socklen_t length) {
 }
 
 int clock_gettime(clockid_t clock, struct timespec *time) {
-  const char *faster = getenv("TIMES_FASTER");
+  const char *faster = getenv(clock == CLOCK_REALTIME || clock == CLOCK_REALTIME_COARSE ? "WALL_TIMES_FASTER" : "TIMES_FASTER");
   int answer = syscall(SYS_clock_gettime, clock, time);
   if (!faster) return answer;
   long milliseconds = (time->tv_sec * 1000 + time->tv_nsec / 1000000) * atol(faster);

@@ -62,6 +62,17 @@ def keeps_to_the_longest_idle_limit():
         assert is_silent(client, 1) and is_closed_soon(client) and relay.end()[-1] == IDLE
 
 
+# refuses idle_limit_by_the_wall: an idle limit goes by the wall's clock, which may be set
+@by_time
+@needs("cc")
+def keeps_to_the_idle_limit_while_the_wall_clock_is_set():
+    # By the wall of one relay an hour passes each second, and by that of the other no time.
+    relays = [Relay(target(echo), preload={"WALL_TIMES_FASTER": times}, slots=1, idle=3) for times in ("3600", "0")]
+    clients = [relay.connect() for relay in relays]
+    assert all([is_silent(client, 0.8) for client in clients]) and all([is_closed_soon(client, 6) for client in clients])
+    assert all([relay.end()[-1] == IDLE for relay in relays])
+
+
 # refuses joined_without_a_peer: a socket that is still connecting is logged as connected
 @by_time
 def ends_a_connect_that_nobody_answers():
