@@ -1,20 +1,16 @@
 -- Which word stands where.
 use Rattle.std.proofs.{Common.{◌≡◌, ℕ, ◌+◌, ◌++◌, [], ◌∷◌, true, nat_lt, length, slice_index_or, List, Some, refl, ◌∙◌, arith, ltb-true}, lemmas.List.FromFn.{get_or-map-range_with_len, map-range_with_len_more}}
-use Rattle.token.specs.declared.side.Side.{Side, TheVariants.{Client, Target}}
-use Rattle.readiness.specs.Words.{WordName, both_of, of_side, word_of, words_of}
+use Rattle.token.specs.declared.side.Side.TheVariants.{Client, Target}
+use Rattle.readiness.specs.Words.{WordName, both_of, word_of, words_of}
 
 -- one slot more
 pub one_more : (n : ℕ) → words_of (n + 1) ≡ words_of n ++ both_of n ∷ []
 one_more n = map-range_with_len_more both_of 0 n n (omega arith)
 
-its_word : (n slot : ℕ) (side : Side) → nat_lt slot n ≡ true → Some (of_side side (both_of slot)) ≡ word_of n slot side
-its_word n slot Client within = rw within refl
-its_word n slot Target within = rw within refl
-
--- what stands there is the word of that slot
-pub found : (ends : List (WordName × WordName)) (n slot : ℕ) (side : Side) (both : WordName × WordName) → n ≡ length ends → ends ≡ words_of n → true ≡ nat_lt slot (length ends)
-    → both ≡ slice_index_or ends slot both → Some (of_side side both) ≡ word_of n slot side
-found ends n slot side both len named inside is =
+-- what stands there are the words of that slot
+pub found : (ends : List (WordName × WordName)) (n slot : ℕ) (both : WordName × WordName) → n ≡ length ends → ends ≡ words_of n → true ≡ nat_lt slot (length ends)
+    → both ≡ slice_index_or ends slot both → (Some both.0 ≡ word_of n slot Client) × (Some both.1 ≡ word_of n slot Target)
+found ends n slot both len named inside is =
     let within : nat_lt slot n ≡ true = cc in
     let same : both ≡ both_of slot = rw named at is ∙ get_or-map-range_with_len both_of 0 n slot slot both (ltb-true slot n within) (omega arith) in
-    rw same (its_word n slot side within)
+    rw same (rw within (refl, refl))

@@ -1,5 +1,5 @@
 -- The words at which reports are passed on. Each end of each slot's connection has one of its own.
-use Rattle.std.specs.{Prelude.{ℕ, nat_lt, if◌then◌else◌, List, map, Option, Some, None}, List.range_with_len}
+use Rattle.std.specs.{Prelude.{◌≡◌, ◌⊎◌, Bool, true, false, ℕ, nat_lt, if◌then◌else◌, List, map, Option, Some, None}, List.range_with_len}
 use Rattle.token.specs.declared.side.Side.{Side, TheVariants.{Client, Target}}
 
 -- the end on a side of a slot's connection
@@ -19,6 +19,13 @@ both_of slot = (record { slot = slot; side = Client }, record { slot = slot; sid
 abbrev pub words_of : ℕ → List (WordName × WordName)
 words_of slots = map both_of (range_with_len 0 slots)
 
-abbrev pub of_side : Side → WordName × WordName → WordName
-of_side Client both = both.0
-of_side Target both = both.1
+-- One step on a flag: it was read whether it is set; or it was set or cleared, and was set before or not
+pub data FlagStep : Type 0 where
+  Read : Bool → FlagStep
+  Swapped : Bool → Bool → FlagStep
+
+-- A look with this answer: the flag was read, and was not set; or it was, and then one step cleared it and gave the answer.
+-- Nothing else was done
+abbrev pub IsTaken : {F Acts : Type 0} → (FlagStep → F → Acts → Acts → Type 0) → F → Bool → Acts → Acts → Type 0
+IsTaken did flag answer from to = (did (Read false) flag from to × (answer ≡ false))
+    ⊎ ((read : _) × did (Read true) flag from read × did (Swapped false answer) flag read to)

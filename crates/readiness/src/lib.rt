@@ -16,4 +16,4 @@ mod word;
 
 pub use attention::Attention;
 pub use reports::{Reports, Told};
-pub use word::Heard;
+pub use word::{Flag, Heard};

@@ -1,11 +1,12 @@
 //! Where a poller leaves for a wire that a report named reading.
-ghost use Rattle.std.specs.{Prelude.{◌≡◌, Some, None, IfOk, IfSome, IfNone, vec_len}, Arc.arc_value};
-ghost use Rattle.readiness.specs.Words.{of_side, word_of, words_of};
+ghost use Rattle.std.specs.{Prelude.{◌≡◌, Some, None, IfOk, IfSome, IfNone, OnSome, Bool, true, vec_len}, Arc.arc_value};
+ghost use Rattle.readiness.specs.Words.{word_of, words_of, IsTaken, Swapped};
 
-use crate::word::{Heard, Word};
+use crate::word::{Flag, Heard, Word};
 use std::alloc::{AllocError, Global};
 use std::marker::Model;
 use std::sync::Arc;
+use std::sync::atomic::AtomicBool;
 use token::Side;
 
 /// For each end of each slot's connection, whether a report that names reading was passed on since its wire last
@@ -13,12 +14,12 @@ use token::Side;
 ///
 /// In a clause it is the number of its slots.
 #[derive(Drop)]
-pub struct Reports {
-    ends: Vec<Ends>,
+pub struct Reports<F = AtomicBool> {
+    ends: Vec<Ends<F>>,
     ghost named: { ends.items ≡ words_of (vec_len ends) },
 }
 
-impl Model for Reports {
+impl<F> Model for Reports<F> {
     ghost use Rattle.std.specs.Prelude.{ℕ, vec_len};
 
     ghost Value = { ℕ };
@@ -28,35 +29,35 @@ impl Model for Reports {
 
 /// The words of the two ends of one slot's connection. In a clause it is their names.
 #[derive(Drop)]
-struct Ends {
-    client: Arc<Word>,
-    target: Arc<Word>,
+struct Ends<F = AtomicBool> {
+    client: Arc<Word<F>>,
+    target: Arc<Word<F>>,
 }
 
-impl Model for Ends {
+impl<F> Model for Ends<F> {
     ghost use Rattle.std.specs.Arc.{arc_value};
     ghost use Rattle.readiness.specs.Words.{WordName};
 
     ghost Value = { WordName × WordName };
 
-    ghost view = { λ e. (arc_value e.client, arc_value e.target) };
+    ghost view = { λ e. ((arc_value e.client).0, (arc_value e.target).0) };
 }
 
 /// A wire's handle on the word of its end, and on no other: a look finds and clears what was reported of that end.
 ///
 /// In a clause it is the name of the word.
 #[derive(Drop)]
-pub struct Told {
-    word: Arc<Word>,
+pub struct Told<F = AtomicBool> {
+    word: Arc<Word<F>>,
 }
 
-impl Model for Told {
+impl<F> Model for Told<F> {
     ghost use Rattle.std.specs.Arc.{arc_value};
     ghost use Rattle.readiness.specs.Words.{WordName};
 
     ghost Value = { WordName };
 
-    ghost view = { λ t. arc_value t.word };
+    ghost view = { λ t. (arc_value t.word).0 };
 }
 
 impl Reports {
@@ -71,26 +72,31 @@ impl Reports {
         }
         Ok(Reports { ends })
     }
+}
 
-    /// Passes on a report that names reading, at the word of that end alone. None if there is no such slot: the wires
-    /// of such a slot always read.
-    pub fn tell(&self, slot: usize, side: Side) -> Option<Heard>
-        ensures { result ≡ word_of self.now slot side }
+impl<F: Flag> Reports<F> {
+    /// Passes on a report that names reading, at the word of that end alone, by one step. None if there is no such
+    /// slot, and no step is made: the wires of such a slot always read.
+    pub fn tell(&self, acts: &mut F::Acts, slot: usize, side: Side) -> Option<Heard>
+        ensures heard { result ≡ word_of self.now slot side }
+        ensures set { OnSome result ((flag : F) × (was : Bool) × F.did (Swapped true was) flag acts.old acts.new) }
+        ensures none { IfNone result (acts.new ≡ acts.old) }
     {
         match self.word(slot, side) {
-            Some(word) => Some(word.tell()),
+            Some(word) => Some(word.tell(acts)),
             None => None,
         }
     }
 
     /// The word of an end, if there is such a slot.
-    fn word(&self, slot: usize, side: Side) -> Option<&Arc<Word>>
-        ensures some { IfSome result (λ word. Some (arc_value word.now) ≡ word_of self.now slot side) }
+    fn word(&self, slot: usize, side: Side) -> Option<&Arc<Word<F>>>
+        ensures some { IfSome result (λ word. Some (arc_value word.now).0 ≡ word_of self.now slot side) }
         ensures none { IfNone result (word_of self.now slot side ≡ None) }
     {
-        match self.ends.get(slot) {
-            Some(ends) => Some(ends.of(side)),
-            None => None,
+        let ends = self.ends.get(slot)?;
+        match side {
+            Side::Client => Some(&ends.client),
+            Side::Target => Some(&ends.target),
         }
     }
 }
@@ -104,20 +110,11 @@ impl Ends {
             target: Arc::new(alloc, Word::new(slot, Side::Target))?,
         })
     }
-
-    fn of(&self, side: Side) -> &Arc<Word>
-        ensures { arc_value result.now ≡ of_side side self.now }
-    {
-        match side {
-            Side::Client => &self.client,
-            Side::Target => &self.target,
-        }
-    }
 }
 
-impl Told {
+impl<F: Flag> Told<F> {
     /// The handle for the end on a side of a slot's connection. None if there is no such slot.
-    pub fn new(reports: &Reports, slot: usize, side: Side) -> Result<Option<Told>, AllocError>
+    pub fn new(reports: &Reports<F>, slot: usize, side: Side) -> Result<Option<Told<F>>, AllocError>
         ensures { IfOk result (λ told. told ≡ word_of reports.now slot side) }
     {
         match reports.word(slot, side) {
@@ -129,7 +126,9 @@ impl Told {
     }
 
     /// Looks whether a report that names reading was passed on since the last look.
-    pub fn take(&self) -> bool {
-        self.word.take()
+    pub fn take(&self, acts: &mut F::Acts) -> bool
+        ensures { (flag : F) × IsTaken F.did flag result acts.old acts.new }
+    {
+        self.word.take(acts)
     }
 }

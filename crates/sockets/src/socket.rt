@@ -96,7 +96,7 @@ impl Stream for Socket {
 
     fn is_told(&mut self) -> bool {
         match &self.told {
-            Some(told) => told.take(),
+            Some(told) => told.take(&mut ()),
             None => true,
         }
     }

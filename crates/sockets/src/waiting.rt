@@ -51,7 +51,7 @@ impl Reporter for Poll {
 
     fn pass_on(&mut self, told: &Reports, event: &Event) -> Option<Heard> {
         match end_of(event.token().0 as u64) {
-            Some(end) if names_reading(event) => told.tell(end.slot(), end.side()),
+            Some(end) if names_reading(event) => told.tell(&mut (), end.slot(), end.side()),
             Some(_) | None => None,
         }
     }
