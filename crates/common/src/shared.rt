@@ -90,13 +90,13 @@ pub trait Counting: Front {
 impl<F: Front> Counting for F {
     fn count(statistics: Option<&Statistics>, slot: usize, event: Event) {
         if let Some(statistics) = statistics {
-            statistics.count(slot, event);
+            statistics.count(&mut (), slot, event);
         }
     }
 
     fn starve(statistics: Option<&Statistics>) {
         if let Some(statistics) = statistics {
-            statistics.starve();
+            statistics.starve(&mut ());
         }
     }
 }

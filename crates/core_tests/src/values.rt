@@ -26,15 +26,15 @@ fn are_summed(alloc: Global) -> Result<bool, AllocError> {
     let statistics = Statistics::new(alloc, 2)?;
     for slot in 0..2 {
         for event in EVENTS {
-            statistics.count(slot, event);
+            statistics.count(&mut (), slot, event);
         }
         if slot == 0 {
-            statistics.starve();
+            statistics.starve(&mut ());
         }
-        statistics.lose();
-        statistics.look();
+        statistics.lose(&mut ());
+        statistics.look(&mut ());
     }
-    let sums = statistics.totals();
+    let sums = statistics.totals(&mut ());
     Ok(
         (sums.slots, sums.live, sums.sums.at(Count::Done)) == (2, 2, 2)
             && (sums.sums.at(Count::Up), sums.sums.at(Count::Down)) == (8_589_934_594, 18)
@@ -67,7 +67,7 @@ fn are_settled(alloc: Global) -> Result<bool, AllocError> {
     let mut places = Vec::new(alloc);
     places.push(Changing(Cell::new(0)))?;
     let statistics = Statistics::over(places, AtomicGauge::zero());
-    Ok(statistics.totals().sums.at(Count::Done) == 3)
+    Ok(statistics.totals(&mut ()).sums.at(Count::Done) == 3)
 }
 
 // refuses counts_of_32_bits: a count goes round at 2^32

@@ -119,7 +119,7 @@ where
     R: Eprint + Wait + Clock + Replacing + Copy + Drop,
 {
     set_thread_name(b"stats");
-    teller.write(rt, queue, &teller.statistics.totals(), false);
+    teller.write(rt, queue, &teller.statistics.totals(&mut ()), false);
     for _time in rt.forever() {
         teller.wait(rt);
         teller.tell(rt, queue, false);
@@ -131,7 +131,7 @@ impl Teller {
     fn wait<R: Wait + Clock>(&self, rt: &R) {
         for _second in 0..self.seconds {
             thread::sleep(rt, Duration::from_secs(1));
-            self.statistics.look();
+            self.statistics.look(&mut ());
         }
     }
 
@@ -140,7 +140,7 @@ impl Teller {
     where
         R: Eprint + Wait + Replacing + Copy + Drop,
     {
-        let totals = self.statistics.totals();
+        let totals = self.statistics.totals(&mut ());
         if self.logs_line {
             log_text(&Queued { rt: *rt, queue }, Level::Info, &totals);
         }

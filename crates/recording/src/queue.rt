@@ -107,7 +107,7 @@ impl RecordQueue {
     /// Counts a record that is lost.
     fn lose(&self) {
         if let Some(statistics) = &self.statistics {
-            statistics.lose();
+            statistics.lose(&mut ());
         }
     }
 

@@ -1,5 +1,5 @@
 -- What is counted at a slot, and the sums.
-use Rattle.std.specs.{Prelude.{ℕ, ◌+◌, ◌*◌, ◌-◌, ◌≤◌, min, Bool, true, List, map, ◌≡◌, [], ◌∷◌, slice_index, slice_set, sum_by}, List.zip}
+use Rattle.std.specs.{Prelude.{ℕ, ◌+◌, ◌*◌, ◌-◌, nat_lt, min, Bool, true, false, not, List, map, ◌≡◌, [], ◌∷◌, slice_index, slice_set, sum_by}, List.zip}
 use Rattle.token.specs.{Kinds.all_kinds, Sides.side_number, declared.{kind.Kind.Kind, side.Side.{Side, TheVariants.{Client, Target}}}}
 use Rattle.relay_core.specs.declared.verdict.{Fault.TheVariants.{Broken, Idle}, Verdict.{Verdict, TheVariants.{Live, Done, Failed}}}
 use Rattle.statistics.specs.declared.{counts.{Count.Count, Counts.Counts}, event.Event.{Event, TheVariants.{Dropped, Opened, Moved, Ended}}, gauge.Levels.Levels, totals.{Figure.Figure, Totals.Totals}}
@@ -150,25 +150,27 @@ pub data Turn : Type 0 where
   Lost : Turn
   Told : Levels → Turn
 
-module _ {G : Type 0} (did : Turn → G → Type 0) where
+module _ {G Acts : Type 0} (did : Turn → G → Acts → Acts → Type 0) where
   -- an opening and an end of a connection are kept by the gauge, and no other event is
-  abbrev pub IsGauged : Event → G → Type 0
-  IsGauged Opened gauge = did Entered gauge
-  IsGauged (Ended verdict up down) gauge = did Left gauge
-  IsGauged Dropped gauge = Unit {0}
-  IsGauged (Moved up down) gauge = Unit {0}
+  abbrev pub IsGauged : Event → G → Acts → Acts → Type 0
+  IsGauged Opened gauge from to = did Entered gauge from to
+  IsGauged (Ended verdict up down) gauge from to = did Left gauge from to
+  IsGauged event gauge from to = to ≡ from
 
-  -- it was looked how many are open, and whether accept(2) has lacked descriptors or memory. A second was added to those with
-  -- all slots taken, if these are all, and to those in which clients waited, if it has
-  pub record IsLookedAt (slots : ℕ) (gauge : G) : Type 0 where
-    pub taken : ℕ
-    pub starved : Bool
-    pub shown : did (Shown taken) gauge
-    pub heard : did (Heard starved) gauge
-    pub passed : slots ≤ taken → did Passed gauge
-    pub waited : starved ≡ true → did Waited gauge
+  -- this look was made, and then this step, if what was seen calls for it
+  abbrev pub IsDoneIf : Bool → Turn → Turn → G → Acts → Acts → Type 0
+  IsDoneIf true look turn gauge from to = (looked : Acts) × did look gauge from looked × did turn gauge looked to
+  IsDoneIf false look turn gauge from to = did look gauge from to
 
--- the sums of all places, with the levels that the gauge told
-abbrev pub AreTotals : {M G : Type 0} → (Step → M → Type 0) → (Turn → G → Type 0) → Counted M G → Totals → Totals → Type 0
-AreTotals did turned counted before totals = (sums : Totals) × (levels : Levels) × AreSums did counted.places before sums
-    × turned (Told levels) counted.gauge × (totals ≡ record sums { levels = levels })
+  -- It was looked how many are open, and if these are all slots, a second was added to those with all slots taken. Then it was
+  -- looked whether accept(2) has lacked descriptors or memory, and if so, a second was added to those in which clients waited.
+  -- Nothing else was done
+  abbrev pub IsLookedAt : ℕ → G → Acts → Acts → Type 0
+  IsLookedAt slots gauge from to = (taken : ℕ) × (next : Acts) × IsDoneIf (not (nat_lt taken slots)) (Shown taken) Passed gauge from next
+      × (starved : Bool) × IsDoneIf starved (Heard starved) Waited gauge next to
+
+-- the sums of all places, with the levels that the gauge told by one step
+module _ {M G Acts : Type 0} (did : Step → M → Type 0) (turned : Turn → G → Acts → Acts → Type 0) where
+  abbrev pub AreTotals : Counted M G → Acts → Acts → Totals → Totals → Type 0
+  AreTotals counted from to before totals = (sums : Totals) × (levels : Levels) × AreSums did counted.places before sums
+      × turned (Told levels) counted.gauge from to × (totals ≡ record sums { levels = levels })

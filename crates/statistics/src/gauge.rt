@@ -32,44 +32,47 @@ impl Levels {
 /// Memory for these numbers, which threads share. No clause can name what it holds, so the trait leaves open what a
 /// step does. What is proved over any such memory says which steps are made on it.
 pub trait Gauge {
-    // This step was made on this gauge. The step has what was read.
-    ghost did: { Turn → Self → Type 0 };
+    // This step, with what it read, was made on this gauge: one act, between what was done before it and after it.
+    ghost did: { Turn → Self → Self.Acts → Self.Acts → Type 0 };
+
+    /// What has been done so far.
+    type Acts;
 
     /// One more connection is open.
-    fn enter(&self)
-        ensures { did Entered self.now };
+    fn enter(&self, acts: &mut Self::Acts)
+        ensures { did Entered self.now acts.old acts.new };
 
     /// One connection less is open.
-    fn leave(&self)
-        ensures { did Left self.now };
+    fn leave(&self, acts: &mut Self::Acts)
+        ensures { did Left self.now acts.old acts.new };
 
     /// One more second has passed with all slots taken.
-    fn pass(&self)
-        ensures { did Passed self.now };
+    fn pass(&self, acts: &mut Self::Acts)
+        ensures { did Passed self.now acts.old acts.new };
 
     /// How many connections are open.
-    fn open(&self) -> u64
-        ensures { did (Shown result) self.now };
+    fn open(&self, acts: &mut Self::Acts) -> u64
+        ensures { did (Shown result) self.now acts.old acts.new };
 
     /// accept(2) lacked descriptors or memory.
-    fn starve(&self)
-        ensures { did Starved self.now };
+    fn starve(&self, acts: &mut Self::Acts)
+        ensures { did Starved self.now acts.old acts.new };
 
     /// Whether accept(2) has lacked some since the last look.
-    fn was_starved(&self) -> bool
-        ensures { did (Heard result) self.now };
+    fn was_starved(&self, acts: &mut Self::Acts) -> bool
+        ensures { did (Heard result) self.now acts.old acts.new };
 
     /// One more second has passed in which accept(2) lacked some.
-    fn wait(&self)
-        ensures { did Waited self.now };
+    fn wait(&self, acts: &mut Self::Acts)
+        ensures { did Waited self.now acts.old acts.new };
 
     /// One more record is lost.
-    fn lose(&self)
-        ensures { did Lost self.now };
+    fn lose(&self, acts: &mut Self::Acts)
+        ensures { did Lost self.now acts.old acts.new };
 
     /// What it has kept.
-    fn levels(&self) -> Levels
-        ensures { did (Told result) self.now };
+    fn levels(&self, acts: &mut Self::Acts) -> Levels
+        ensures { did (Told result) self.now acts.old acts.new };
 }
 
 /// A gauge of atomic numbers.
@@ -98,42 +101,44 @@ impl AtomicGauge {
 }
 
 impl Gauge for AtomicGauge {
-    ghost did = { λ _ _. Unit {0} };
+    ghost did = { λ _ _ _ _. Unit {0} };
 
-    fn enter(&self) {
+    type Acts = ();
+
+    fn enter(&self, _acts: &mut ()) {
         let open = self.open.fetch_add(1, SeqCst).saturating_add(1);
         raise(&self.most, open);
     }
 
-    fn leave(&self) {
+    fn leave(&self, _acts: &mut ()) {
         self.open.fetch_sub(1, SeqCst);
     }
 
-    fn pass(&self) {
+    fn pass(&self, _acts: &mut ()) {
         self.full_seconds.fetch_add(1, SeqCst);
     }
 
-    fn open(&self) -> u64 {
+    fn open(&self, _acts: &mut ()) -> u64 {
         self.open.load(SeqCst)
     }
 
-    fn starve(&self) {
+    fn starve(&self, _acts: &mut ()) {
         self.is_starved.store(true, SeqCst);
     }
 
-    fn was_starved(&self) -> bool {
+    fn was_starved(&self, _acts: &mut ()) -> bool {
         self.is_starved.swap(false, SeqCst)
     }
 
-    fn wait(&self) {
+    fn wait(&self, _acts: &mut ()) {
         self.waiting_seconds.fetch_add(1, SeqCst);
     }
 
-    fn lose(&self) {
+    fn lose(&self, _acts: &mut ()) {
         self.lost.fetch_add(1, SeqCst);
     }
 
-    fn levels(&self) -> Levels {
+    fn levels(&self, _acts: &mut ()) -> Levels {
         Levels {
             most: self.most.load(SeqCst),
             full_seconds: self.full_seconds.load(SeqCst),
@@ -158,25 +163,25 @@ fn raise(number: &AtomicU64, to: u64) {
 }
 
 /// Keeps an event of a connection.
-pub(crate) fn keep<G: Gauge>(gauge: &G, event: Event)
-    ensures { IsGauged G.did event gauge.now }
+pub(crate) fn keep<G: Gauge>(gauge: &G, acts: &mut G::Acts, event: Event)
+    ensures { IsGauged G.did event gauge.now acts.old acts.new }
 {
     match event {
-        Event::Opened => gauge.enter(),
-        Event::Ended { .. } => gauge.leave(),
+        Event::Opened => gauge.enter(acts),
+        Event::Ended { .. } => gauge.leave(acts),
         Event::Dropped | Event::Moved { .. } => {}
     }
 }
 
 /// Looks whether all of these slots are taken, and whether accept(2) has lacked descriptors or memory since the last
 /// look, and adds a second to each that is so.
-pub(crate) fn look<G: Gauge>(gauge: &G, slots: usize)
-    ensures { IsLookedAt G.did slots gauge.now }
+pub(crate) fn look<G: Gauge>(gauge: &G, acts: &mut G::Acts, slots: usize)
+    ensures { IsLookedAt G.did slots gauge.now acts.old acts.new }
 {
-    if gauge.open() >= slots as u64 {
-        gauge.pass();
+    if gauge.open(acts) >= slots as u64 {
+        gauge.pass(acts);
     }
-    if gauge.was_starved() {
-        gauge.wait();
+    if gauge.was_starved(acts) {
+        gauge.wait(acts);
     }
 }

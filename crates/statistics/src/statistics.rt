@@ -50,48 +50,50 @@ impl<M: Memory, G: Gauge> Statistics<M, G> {
 
     /// Counts an event at a slot. Only the thread that holds the slot, or has it in hand while it is free, may do that.
     /// If there is no such slot, nothing is counted.
-    pub fn count(&self, slot: usize, event: Event)
+    pub fn count(&self, acts: &mut G::Acts, slot: usize, event: Event)
         ensures counted { IfSome (slice_get self.now.places slot) (λ place. IsCounted M.did event place) }
-        ensures gauged { slot < length self.now.places → IsGauged G.did event self.now.gauge }
+        ensures gauged { slot < length self.now.places → IsGauged G.did event self.now.gauge acts.old acts.new }
+        ensures none { length self.now.places ≤ slot → acts.new ≡ acts.old }
     {
         let Some(place) = self.places.get(slot) else {
             return;
         };
         place::count(place, event);
-        gauge::keep(&self.gauge, event);
+        gauge::keep(&self.gauge, acts, event);
     }
 
     /// accept(2) lacked descriptors or memory, so clients wait.
-    pub fn starve(&self)
-        ensures { G.did Starved self.now.gauge }
+    pub fn starve(&self, acts: &mut G::Acts)
+        ensures { G.did Starved self.now.gauge acts.old acts.new }
     {
-        self.gauge.starve();
+        self.gauge.starve(acts);
     }
 
     /// A recording lacks one more record.
-    pub fn lose(&self)
-        ensures { G.did Lost self.now.gauge }
+    pub fn lose(&self, acts: &mut G::Acts)
+        ensures { G.did Lost self.now.gauge acts.old acts.new }
     {
-        self.gauge.lose();
+        self.gauge.lose(acts);
     }
 
     /// Adds a second to those with all slots taken, if they are now, and to those in which clients waited, if accept(2)
     /// has lacked descriptors or memory since the last look.
-    pub fn look(&self)
-        ensures { IsLookedAt G.did (length self.now.places) self.now.gauge }
+    pub fn look(&self, acts: &mut G::Acts)
+        ensures { IsLookedAt G.did (length self.now.places) self.now.gauge acts.old acts.new }
     {
-        gauge::look(&self.gauge, self.places.len());
+        gauge::look(&self.gauge, acts, self.places.len());
     }
 
     /// Sums what all places have, and then reads the gauge. A place that changes meanwhile is read again, up to 8
     /// times. The places are read one after another, so the sums are not of one moment.
-    pub fn totals(&self) -> Totals
-        ensures totals { AreTotals M.did G.did self.now (no_sums (length self.now.places) Levels.NONE Counts.NONE) result }
+    pub fn totals(&self, acts: &mut G::Acts) -> Totals
+        ensures totals { AreTotals M.did G.did self.now acts.old acts.new
+            (no_sums (length self.now.places) Levels.NONE Counts.NONE) result }
         ensures slots { result.slots ≡ length self.now.places }
         ensures open { result.live ≤ length self.now.places }
     {
         let mut totals = self.sums();
-        totals.levels = self.gauge.levels();
+        totals.levels = self.gauge.levels(acts);
         totals
     }
 
