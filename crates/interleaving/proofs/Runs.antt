@@ -34,7 +34,7 @@ module _ (st : System) (p : SlotState) (workers : List WorkerState) (set : Settl
   finds_settled had like = tt
 
   -- any step, where no opening is half way
-  follows_settled : (s : Step) → Kept (Follows [] (exchange st.word (kind_in st s)) (machine_of st p st.entry st.tickets workers) s) (step st s)
+  follows_settled : (s : Step) → Kept (Follows [] (made_all (kinds_in st s) st.word) (machine_of st p st.entry st.tickets workers) s) (step st s)
   follows_settled Deliver = reports set
   follows_settled Sweep = sweeps set
   follows_settled Open = kept_bind _ _ (λ t there. kept_guard _ _ (λ r.
@@ -78,14 +78,8 @@ module _ (st : System) (t : Thread) (c : Connection) (workers : List WorkerState
   stays_half {before} {own} new place entry u same stage words = record {
     events = [];
     world = half_world;
-    like = IsHalfOpen u c workers (rw same refl) (record {
-      first = get-set_same st.threads 0 t u half.first;
-      worker = half.worker;
-      others = after_set st.threads workers u half.others;
-      tickets = half.tickets;
-      ends = half.ends;
-      stage = stage;
-    });
+    like = IsHalfOpen u c workers (rw same refl)
+        (assumption (get-set_same st.threads 0 t u half.first, after_set st.threads workers u half.others, stage));
     shows = λ more. rw (words, append_assoc own);
   }
 
@@ -96,7 +90,7 @@ module _ (st : System) (t : Thread) (c : Connection) (workers : List WorkerState
     events = [];
     world = half_world;
     like = IsSettled (opened_slot t.generation c) workers (rw own refl)
-        (record { ends = half.ends; word = refl; place = λ yes. at; threads = λ i u there. over i u there (cases_eq i 0) });
+        (settled half.ends refl (λ yes. at) (λ i u there. over i u there (cases_eq i 0)));
     shows = λ more. refl;
   })
     where
@@ -109,7 +103,7 @@ module _ (st : System) (t : Thread) (c : Connection) (workers : List WorkerState
           let rest = after_set st.threads workers (goes_on t []) half.others i u other there in
           record { worker = idle_worker; there = rest.1; like = rw rest.0 (Rests refl) }
 
-  goes_half : {todo : List Act} → Stage st.word st.place st.entry t c todo → Kept (Follows (left_of todo st.word) (exchange st.word (first_kind todo)) half_world (Acts 0)) (acts st 0 t todo)
+  goes_half : {todo : List Act} → Stage st.word st.place st.entry t c todo → Kept (Follows (left_of todo st.word) (made_all (first_kinds todo) st.word) half_world (Acts 0)) (acts st 0 t todo)
   goes_half (Registered notes is at out) = rw is (kept_some (stays_half (taken_word notes) st.place st.entry (goes_on t (drop 2 open_slot)) refl (Adopted notes refl at out) refl))
   goes_half (Adopted notes is at out) = kept_some (stays_half st.word st.place t.generation (goes_on t (drop 3 open_slot)) refl (Entered notes is at out refl) refl)
   goes_half (Entered notes is at out own) = rw is (kept_some (stays_half (taken_word 0) st.place st.entry (goes_on t (drop 4 open_slot)) refl (Emptied refl at out own) refl))
@@ -120,32 +114,29 @@ module _ (st : System) (t : Thread) (c : Connection) (workers : List WorkerState
   poller_acts : {X : Type 0} → poller_rests st ≡ true → X
   poller_acts b = cc (half.first, stage_acts half.stage)
 
-  this_thread : (i : ℕ) (u : Thread) → i ≡ 0 → slice_get st.threads i ≡ Some u → u ≡ t
-  this_thread i u first there = cc half.first
+  -- any other thread rests
+  this_or_over : (i : ℕ) (u : Thread) → slice_get st.threads i ≡ Some u → ((i ≡ 0) × (u ≡ t)) ⊎ (u.todo ≡ [])
+  this_or_over i u there = elim (cases_eq i 0) [ inl first ↦ inl (first, cc half.first) | inr other ↦ inr (half.others i u other there).0 ]
 
-  acts_half : (i : ℕ) (u : Thread) → slice_get st.threads i ≡ Some u → (i ≡ 0) ⊎ (i ≢ 0)
-      → Kept (Follows (left_of t.todo st.word) (exchange st.word (first_kind u.todo)) half_world (Acts i)) (acts st i u u.todo)
-  acts_half i u there (inl first) = rw (first, this_thread i u first there) (goes_half half.stage)
-  acts_half i u there (inr other) = rw (half.others i u other there).0 kept_none
-
-  calls_half : (i : ℕ) (u : Thread) (r : Reply) → slice_get st.threads i ≡ Some u → (i ≡ 0) ⊎ (i ≢ 0) → calls st i u r u.todo ≡ None
-  calls_half i u r there (inl first) = rw (first, this_thread i u first there) (stage_calls st r half.stage)
-  calls_half i u r there (inr other) = rw (half.others i u other there).0 refl
-
-  follows_half : (s : Step) → Kept (Follows (left_of t.todo st.word) (exchange st.word (kind_in st s)) half_world s) (step st s)
+  follows_half : (s : Step) → Kept (Follows (left_of t.todo st.word) (made_all (kinds_in st s) st.word) half_world s) (step st s)
   follows_half Deliver = kept_when _ _ (λ b. poller_acts b)
   follows_half Sweep = kept_guard _ _ (λ b. poller_acts (and_parts _ _ b).0)
   follows_half Open = kept_bind _ (slice_get st.threads 0) (λ u there. kept_guard _ _ (λ b. poller_acts (rw there (and_parts (rests u) st.accepted b).0)))
   follows_half (Begin i most) = kept_bind _ (slice_get st.threads i) (λ u there. kept_when (rests u && nat_le most st.limits.budget) _ (λ b. rw half.tickets kept_none))
-  follows_half (Acts i) = kept_bind _ (slice_get st.threads i) (λ u there. rw there (acts_half i u there (cases_eq i 0)))
-  follows_half (Calls i r) = kept_bind _ (slice_get st.threads i) (λ u there. rw (calls_half i u r there (cases_eq i 0)) kept_none)
+  follows_half (Acts i) = kept_bind _ (slice_get st.threads i) (λ u there. rw there (elim (this_or_over i u there) [
+    | inl it ↦ rw (it.0, it.1) (goes_half half.stage)
+    | inr over ↦ rw over kept_none
+  ]))
+  follows_half (Calls i r) = kept_bind _ (slice_get st.threads i) (λ u there. elim (this_or_over i u there) [
+    | inl it ↦ rw (it.0, it.1, stage_calls st r half.stage) kept_none
+    | inr over ↦ rw over kept_none
+  ])
   follows_half s = beyond (half_frame half) s refl
 
-  finds_half : (i : ℕ) (u : Thread) → slice_get st.threads i ≡ Some u → (i ≡ 0) ⊎ (i ≢ 0) → Finds st.word st.place u.generation u.todo
-  finds_half i u there (inl first) = rw (this_thread i u first there) (stage_finds half.stage)
-  finds_half i u there (inr other) = rw (half.others i u other there).0 tt
+  finds_half : (i : ℕ) (u : Thread) → slice_get st.threads i ≡ Some u → Finds st.word st.place u.generation u.todo
+  finds_half i u there = elim (this_or_over i u there) [ inl it ↦ rw it.1 (stage_finds half.stage) | inr over ↦ rw over tt ]
 
-follows : (st : System) (w : State) (like : Like st w) → Turns w → (s : Step) → Kept (Follows (ahead st w like) (exchange st.word (kind_in st s)) w s) (step st s)
+follows : (st : System) (w : State) (like : Like st w) → Turns w → (s : Step) → Kept (Follows (ahead st w like) (made_all (kinds_in st s) st.word) w s) (step st s)
 follows st w (IsSettled p workers is set) turns s = rw is (follows_settled st p workers set (rw is at turns) s)
 follows st w (IsHalfOpen t c workers is half) turns s = rw is (follows_half st t c workers half s)
 
@@ -165,10 +156,7 @@ one_at_most b = grind arith
 few : (st : System) (p : SlotState) (entry : ℕ) (ts : List ℕ) (workers : List WorkerState) → Turns (machine_of st p entry ts workers)
     → (length ts ≤ 1) × (st.free ≤ 1)
 few st p entry ts workers turns =
-    let w = machine_of st p entry ts workers in
     let sv = turns.each 0 p refl in
-    let made = sv.tickets in
-    let gone = sv.gone in
     let a = one_at_most (not (is_held p.holder) && is_nonempty p.notes) in
     let b = one_at_most (is_free p.holder) in
     let c = count_tickets ts in
@@ -181,7 +169,7 @@ no_act_in_vain st w (IsSettled p workers is set) turns =
     let least = few st p st.entry st.tickets workers now in
     record { finds = λ i t there. let it = set.threads i t there in finds_settled st p workers set now it.there it.like; one_ticket = least.0; free_once = least.1 }
 no_act_in_vain st w (IsHalfOpen t c workers is half) turns = record {
-  finds = λ i u there. finds_half st t c workers half i u there (cases_eq i 0);
+  finds = λ i u there. finds_half st t c workers half i u there;
   one_ticket = rw half.tickets (omega arith);
   free_once = (few st (opened_slot t.generation c) t.generation (t.generation ∷ []) workers (rw is at turns)).1;
 }
@@ -196,15 +184,15 @@ record Ran (st : System) (w : State) (before : List Exchange) (steps : List Step
   pub events : List Event
   pub world : State
   pub like : Like to world
-  pub shows : shown before w events ≡ (Some world, flat_map call_of steps, flat_map outside_of steps, exchanges st steps ++ ahead to world like)
+  pub shows : shown before w events ≡ (Some world, flat_map visible_of steps, exchanges st steps ++ ahead to world like)
 
-went_on : {before : List Exchange} {w : State} {st q to : System} (s : Step) (steps : List Step) → step st s ≡ Some q → (f : Follows before (exchange st.word (kind_in st s)) w s q)
+went_on : {before : List Exchange} {w : State} {st q to : System} (s : Step) (steps : List Step) → step st s ≡ Some q → (f : Follows before (made_all (kinds_in st s) st.word) w s q)
     → Ran q f.world (ahead q f.world f.like) steps to → Ran st w before (s ∷ steps) to
 went_on {st = st} s steps is f r = record {
   events = f.events ++ r.events;
   world = r.world;
   like = r.like;
-  shows = rw (is, append_assoc) (f.shows r.events ∙ ap (after_step s (exchange st.word (kind_in st s))) r.shows);
+  shows = rw (is, append_assoc) (f.shows r.events ∙ ap (after_step s (made_all (kinds_in st s) st.word)) r.shows);
 }
 
 went : (laws : CoreLaws) (steps : List Step) (w : State) (st to : System) (like : Like st w) → Turns w → run st steps ≡ Some to → Ran st w (ahead st w like) steps to
@@ -212,7 +200,7 @@ went laws [] w st to like turns ran =
     let same : st ≡ to = cc in
     rw (← same) (record { events = []; world = w; like = like; shows = rw append-nil })
 went laws (s ∷ steps) w st to like turns ran = option_and_then_some _ _ _ ran (λ q is rest.
-    let f : Follows (ahead st w like) (exchange st.word (kind_in st s)) w s q = kept_at _ _ is (follows st w like turns s) in
+    let f : Follows (ahead st w like) (made_all (kinds_in st s) st.word) w s q = kept_at _ _ is (follows st w like turns s) in
     let led : machine_runs.run w f.events ≡ Some f.world = rw append-nil at (ap (λ (x : Shown). x.0) (f.shows [])) in
     let now = holds_after Turns (λ v e u. turns_on laws v) w f.world f.events turns led in
     went_on s steps is f (went laws steps f.world q to f.like now rest))
@@ -220,14 +208,9 @@ went laws (s ∷ steps) w st to like turns ran = option_and_then_some _ _ _ ran 
 -- from the opening
 
 at_first : (l : Limits) → l.slots ≡ 1 → Like (start l) (opening l)
-at_first l one = IsSettled (unused_place l.generation) (replicate l.workers idle_worker) (rw one refl) (record {
-  ends = refl;
-  word = refl;
-  place = λ yes. refl;
-  threads = λ i t there.
-      let same = get-replicate l.workers i resting t there in
-      record { worker = idle_worker; there = get_beside l.workers i resting t idle_worker there; like = rw (← same) (Rests refl) };
-})
+at_first l one = IsSettled (unused_place l.generation) (replicate l.workers idle_worker) (rw one refl) (settled refl refl (λ yes. refl) (λ i t there.
+    let same = get-replicate l.workers i resting t there in
+    record { worker = idle_worker; there = get_beside l.workers i resting t idle_worker there; like = rw (← same) (Rests refl) }))
 
 pub every_interleaving : CoreLaws → EveryRunHolds → EveryInterleavingIsARun
 unfolding at_first
@@ -235,16 +218,16 @@ every_interleaving laws holds l steps st one ran =
     let first = opening l in
     let r : Ran (start l) first [] steps st = went laws steps first (start l) st (at_first l one) (turns_after laws l [] first refl) ran in
     let led : machine_runs.run first r.events ≡ Some r.world = ap (λ (x : Shown). x.0) r.shows in
+    let nothing = no_act_in_vain st r.world r.like (turns_after laws l r.events r.world led) in
     record {
       made = r.events;
       world = r.world;
       allowed = led;
       like = r.like;
-      calls = ap (λ (x : Shown). x.1) r.shows;
-      outside = ap (λ (x : Shown). x.2) r.shows;
-      words = ap (λ (x : Shown). x.3) r.shows;
+      visible = ap (λ (x : Shown). x.1) r.shows;
+      words = ap (λ (x : Shown). x.2) r.shows;
       holds = holds l r.events r.world led;
-      nothing = no_act_in_vain st r.world r.like (turns_after laws l r.events r.world led);
+      nothing = nothing;
     }
 
 -- one step
@@ -253,16 +236,15 @@ pub every_step : CoreLaws → EveryStepIsFollowed
 every_step laws = record {
   begins = at_first;
   follows = λ l before w st q was s led is.
-      let f : Follows (ahead st w was) (exchange st.word (kind_in st s)) w s q =
-      kept_at {P = Follows (ahead st w was) (exchange st.word (kind_in st s)) w s} (step st s) q is (follows st w was (turns_after laws l before w led) s) in
-      let shows = rw (append-nil f.events, append-nil (call_of s), append-nil (outside_of s), append-nil (ahead q f.world f.like)) at (f.shows []) in
+      let f : Follows (ahead st w was) (made_all (kinds_in st s) st.word) w s q =
+      kept_at {P = Follows (ahead st w was) (made_all (kinds_in st s) st.word) w s} (step st s) q is (follows st w was (turns_after laws l before w led) s) in
+      let shows = rw (append-nil f.events, append-nil (visible_of s), append-nil (ahead q f.world f.like)) at (f.shows []) in
       record {
         made = f.events;
         world = f.world;
         allowed = ap (λ (x : Shown). x.0) shows;
         like = f.like;
-        calls = ap (λ (x : Shown). x.1) shows;
-        outside = ap (λ (x : Shown). x.2) shows;
-        words = ap (λ (x : Shown). x.3) shows;
+        visible = ap (λ (x : Shown). x.1) shows;
+        words = ap (λ (x : Shown). x.2) shows;
       };
 }

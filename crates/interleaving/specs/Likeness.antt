@@ -1,13 +1,13 @@
 -- The exchanges of the slot's word with their answers; when a state of the threads and one of the machine are alike;
 -- and the law. The machine has one slot. It makes an opening in one event, and the threads make seven acts: until the
 -- last of these the machine is ahead.
-use Rattle.std.specs.{Prelude.{◌≡◌, ◌≢◌, ℕ, ◌≤◌, ◌==◌, ◌&&◌, true, false, if◌then◌else◌, List, [], ◌∷◌, ◌++◌, map, replicate, slice_get, drop, Option, Some, None, option_map, option_and_then, unwrap_or, length}, List.flat_map}
+use Rattle.std.specs.{List.flat_map, Prelude.{List, None, Option, Some, [], drop, false, if◌then◌else◌, length, map, option_map, replicate, slice_get, true, unwrap_or, ℕ, ◌&&◌, ◌++◌, ◌==◌, ◌∷◌, ◌≡◌, ◌≢◌, ◌≤◌}}
 use Rattle.token.specs.declared.name.Name.{Name}
-use Rattle.kernel_model.specs.{declared.{reply.Reply.Reply, both.Descriptors.Descriptors}, Ends.is_nonempty}
-use Rattle.relay_core.specs.Pairs.{verdict, is_live}
-use Rattle.claims.specs.{declared.view.Exchange.Exchange, Words.{WordState, StepKind, word_after, some_wait, made as exchange_made}}
-use Rattle.world.specs.{declared.{connection.Connection.Connection, limits.Limits.Limits, actors.{Ticket.Ticket, Holder.TheVariants.{Nobody, By}}, event.{Event.Event, Reported.Reported}}, Slots.{SlotState, WorkerState, is_by_worker}, States.State, Steps.{may_release, step as machine_step}, Words.{word_at, steps}, Acts.busy, Headline.HeadlineHolds}
-use Rattle.interleaving.specs.Threads.{Act, Claim, TakeOut, TakeNotes, PutIn, Post, Release, Retire, Adopt, Discard, turn, plan, again, ended, open_slot, System, Thread, Step, Tick, Network, Connect, Spurious, Vanish, Accept, Drop, Poll, Deliver, Sweep, Acts, Calls, start, step, run}
+use Rattle.kernel_model.specs.{Ends.is_nonempty, declared.both.Descriptors.Descriptors}
+use Rattle.relay_core.specs.Pairs.{is_live, verdict}
+use Rattle.claims.specs.{Words.{StepKind, WordState, made as exchange_made, some_wait, word_after}, declared.view.Exchange.Exchange}
+use Rattle.world.specs.{Acts.busy, Headline.HeadlineHolds, Slots.{SlotState, WorkerState, is_by_worker}, States.State, Steps.{may_release, step as machine_step}, Words.{steps, word_at}, declared.{actors.{Holder.TheVariants.{By, Nobody}, Ticket.Ticket}, connection.Connection.Connection, event.{Event.Event, Reported.Reported}, limits.Limits.Limits}}
+use Rattle.interleaving.specs.Threads.{Accept, Act, Acts, Adopt, Calls, Claim, Connect, Deliver, Discard, Drop, Network, Poll, Post, PutIn, Release, Retire, Spurious, Step, Sweep, System, TakeNotes, TakeOut, Thread, Tick, Vanish, again, ended, open_slot, plan, run, start, step, turn}
 use Rattle.token.specs.declared.name.Name.TheVariants as name
 use Rattle.claims.specs.Words as word
 use Rattle.world.specs.declared.actors.Doing.TheVariants as doing
@@ -21,49 +21,42 @@ use Rattle.world.specs.Runs as events
 
 -- Exchanges
 
--- the kind of exchange that an act makes, if it makes one
-abbrev pub kind_of : Act → Option StepKind
-kind_of Claim = Some word.claim
-kind_of TakeNotes = Some word.take
-kind_of Discard = Some word.take
-kind_of Post = Some word.post
-kind_of Release = Some word.release
-kind_of Retire = Some word.retire
-kind_of Adopt = Some word.adopt
-kind_of act = None
+-- the kind of exchange that an act makes, or none
+abbrev pub kinds_of : Act → List StepKind
+kinds_of Claim = word.claim ∷ []
+kinds_of TakeNotes = word.take ∷ []
+kinds_of Discard = word.take ∷ []
+kinds_of Post = word.post ∷ []
+kinds_of Release = word.release ∷ []
+kinds_of Retire = word.retire ∷ []
+kinds_of Adopt = word.adopt ∷ []
+kinds_of act = []
 
--- the kind of exchange that the first act of these makes, if any
-abbrev pub first_kind : List Act → Option StepKind
-first_kind [] = None
-first_kind (act ∷ rest) = kind_of act
+-- that of the first of these acts
+abbrev pub first_kinds : List Act → List StepKind
+first_kinds [] = []
+first_kinds (act ∷ rest) = kinds_of act
 
 -- a report of an end is posted if it has the table's generation
-abbrev pub posts : System → List Name → Option StepKind
-posts st [] = None
-posts st (name.Listener ∷ rest) = None
-posts st (name.Waker ∷ rest) = None
-posts st (name.End n ∷ rest) = if (n.slot == 0) && (st.entry == n.generation) then Some word.post else None
+abbrev pub posts : System → List Name → List StepKind
+posts st (name.End n ∷ rest) = if (n.slot == 0) && (st.entry == n.generation) then word.post ∷ [] else []
+posts st batch = []
 
-abbrev pub kind_in : System → Step → Option StepKind
-kind_in st (Acts i) = option_and_then (λ (t : Thread). first_kind t.todo) (slice_get st.threads i)
-kind_in st Deliver = posts st st.batch
-kind_in st Sweep = Some word.post
-kind_in st s = None
+abbrev pub kinds_in : System → Step → List StepKind
+kinds_in st (Acts i) = unwrap_or (option_map (λ (t : Thread). first_kinds t.todo) (slice_get st.threads i)) []
+kinds_in st Deliver = posts st st.batch
+kinds_in st Sweep = word.post ∷ []
+kinds_in st s = []
 
--- the exchange of this kind, if any, with the answer that the word gives
-abbrev pub exchange : WordState → Option StepKind → List Exchange
-exchange w None = []
-exchange w (Some kind) = exchange_made kind w ∷ []
+-- the exchanges of these kinds with the answers that the word gives, made one after the other
+abbrev pub made_all : List StepKind → WordState → List Exchange
+made_all [] w = []
+made_all (kind ∷ kinds) w = exchange_made kind w ∷ made_all kinds (word_after kind w)
 
 -- the exchanges of a list of steps
 abbrev pub exchanges : System → List Step → List Exchange
 exchanges st [] = []
-exchanges st (s ∷ rest) = exchange st.word (kind_in st s) ++ unwrap_or (option_map (λ (q : System). exchanges q rest) (step st s)) []
-
--- the exchanges of these kinds, made one after the other
-abbrev pub made_all : List StepKind → WordState → List Exchange
-made_all [] w = []
-made_all (kind ∷ kinds) w = exchange_made kind w ∷ made_all kinds (word_after kind w)
+exchanges st (s ∷ rest) = made_all (kinds_in st s) st.word ++ unwrap_or (option_map (λ (q : System). exchanges q rest) (step st s)) []
 
 -- the exchanges of an event of the machine, at its one slot
 abbrev pub exchanges_of : State → Event → List Exchange
@@ -74,13 +67,8 @@ exchanges_in st [] = []
 exchanges_in st (e ∷ es) = exchanges_of st e ++ unwrap_or (option_map (λ (q : State). exchanges_in q es) (machine_step st e)) []
 
 -- the exchanges of the rest of a program, if nobody else changes the word
-abbrev pub word_then : WordState → Option StepKind → WordState
-word_then w None = w
-word_then w (Some kind) = word_after kind w
-
 abbrev pub left_of : List Act → WordState → List Exchange
-left_of [] w = []
-left_of (act ∷ rest) w = exchange w (kind_of act) ++ left_of rest (word_then w (kind_of act))
+left_of acts w = made_all (flat_map kinds_of acts) w
 
 -- Likeness
 
@@ -207,15 +195,6 @@ abbrev pub ahead : (st : System) (w : State) → Like st w → List Exchange
 ahead st w (IsSettled p workers is set) = []
 ahead st w (IsHalfOpen t c workers is half) = left_of t.todo st.word
 
--- the calls of the threads, and those of the machine's workers: who makes each, and its reply
-abbrev pub call_of : Step → List (ℕ × Reply)
-call_of (Calls i r) = (i, r) ∷ []
-call_of s = []
-
-abbrev pub call_in : Event → List (ℕ × Reply)
-call_in (event.Work i (act.Call r)) = (i, r) ∷ []
-call_in e = []
-
 -- What a thread with a ticket of this generation finds at its next act. If it claims the slot, nobody holds the slot;
 -- if it takes the connection out, the ticket's own is in the place; if it takes the notes, there are some; if it puts
 -- a connection in, the place is empty; if it adopts the slot, the slot is free
@@ -233,45 +212,42 @@ pub record NoActInVain (st : System) : Type 0 where
   pub one_ticket : length st.tickets ≤ 1
   pub free_once : st.free ≤ 1
 
--- What clock, network and kernel do, and the poller at its listener and with a poll, as events of the machine: first
--- by the steps of the threads, then among the machine's events
+-- What can be seen, as events of the machine: what clock, network and kernel do, and the poller at its listener and with a
+-- poll; and each call, with who makes it and its reply. First by the steps of the threads, then among the machine's events
 
 abbrev pub here : Reported → Reported
 here reported.Listener = reported.Listener
 here reported.Waker = reported.Waker
 here (reported.End s side) = reported.End 0 side
 
-abbrev pub outside_of : Step → List Event
-outside_of (Tick n) = event.Tick n ∷ []
-outside_of (Network side change) = event.Network 0 side change ∷ []
-outside_of Connect = event.Listen listening.Connect ∷ []
-outside_of (Spurious who) = event.Spurious (here who) ∷ []
-outside_of (Vanish who) = event.Vanish (here who) ∷ []
-outside_of (Accept reply) = event.Listen (listening.Accept reply) ∷ []
-outside_of Drop = event.Listen listening.Drop ∷ []
-outside_of (Poll names) = event.Poll (polling.Poll names) ∷ []
-outside_of s = []
+abbrev pub visible_of : Step → List Event
+visible_of (Tick n) = event.Tick n ∷ []
+visible_of (Network side change) = event.Network 0 side change ∷ []
+visible_of Connect = event.Listen listening.Connect ∷ []
+visible_of (Spurious who) = event.Spurious (here who) ∷ []
+visible_of (Vanish who) = event.Vanish (here who) ∷ []
+visible_of (Accept reply) = event.Listen (listening.Accept reply) ∷ []
+visible_of Drop = event.Listen listening.Drop ∷ []
+visible_of (Poll names) = event.Poll (polling.Poll names) ∷ []
+visible_of (Calls i r) = event.Work i (act.Call r) ∷ []
+visible_of s = []
 
-abbrev pub outside_in : Event → List Event
-outside_in (event.Tick n) = event.Tick n ∷ []
-outside_in (event.Network s side change) = event.Network s side change ∷ []
-outside_in (event.Spurious who) = event.Spurious who ∷ []
-outside_in (event.Vanish who) = event.Vanish who ∷ []
-outside_in (event.Listen l) = event.Listen l ∷ []
-outside_in (event.Poll (polling.Poll names)) = event.Poll (polling.Poll names) ∷ []
-outside_in e = []
+abbrev pub visible_in : Event → List Event
+visible_in (event.Poll (polling.Poll names)) = event.Poll (polling.Poll names) ∷ []
+visible_in (event.Poll p) = []
+visible_in (event.Work i (act.Call r)) = event.Work i (act.Call r) ∷ []
+visible_in (event.Work i a) = []
+visible_in e = e ∷ []
 
 -- These steps of threads are a run of the machine: events, allowed one after the other from its opening, lead to a
--- like state. Of the steps and of the events these are the same, in the same order: calls and replies; what clock,
--- network, kernel, listener and polls do; and exchanges of the slot's word with their answers, but for those that the
--- machine is ahead by. So the headline holds
+-- like state. Of the steps and of the events these are the same, in the same order: what can be seen; and exchanges of
+-- the slot's word with their answers, but for those that the machine is ahead by. So the headline holds
 pub record IsARun (l : Limits) (steps : List Step) (st : System) : Type 0 where
   pub made : List Event
   pub world : State
   pub allowed : events.run (machine.opening l) made ≡ Some world
   pub like : Like st world
-  pub calls : flat_map call_in made ≡ flat_map call_of steps
-  pub outside : flat_map outside_in made ≡ flat_map outside_of steps
+  pub visible : flat_map visible_in made ≡ flat_map visible_of steps
   pub words : exchanges_in (machine.opening l) made ≡ exchanges (start l) steps ++ ahead st world like
   pub holds : HeadlineHolds l made world
   pub nothing : NoActInVain st
@@ -280,20 +256,19 @@ abbrev pub EveryInterleavingIsARun : Type 0
 EveryInterleavingIsARun = (l : Limits) (steps : List Step) (st : System) → l.slots ≡ 1 → run (start l) steps ≡ Some st → IsARun l steps st
 
 -- From like states w and st, of which `was` says how, the step s of the threads led to q. It is followed by these events
--- of the machine, none or more, which lead to a state like q. By them the machine makes the step's call, if it makes
--- one, and what clock, network, kernel, listener and polls did; and its exchanges, but for those that it is ahead by
+-- of the machine, none or more, which lead to a state like q. By them the machine does what can be seen of the step, and
+-- makes its exchanges, but for those that it is ahead by
 pub record IsFollowed (w : State) (st q : System) (was : Like st w) (s : Step) : Type 0 where
   pub made : List Event
   pub world : State
   pub allowed : events.run w made ≡ Some world
   pub like : Like q world
-  pub calls : flat_map call_in made ≡ call_of s
-  pub outside : flat_map outside_in made ≡ outside_of s
-  pub words : ahead st w was ++ exchanges_in w made ≡ exchange st.word (kind_in st s) ++ ahead q world like
+  pub visible : flat_map visible_in made ≡ visible_of s
+  pub words : ahead st w was ++ exchanges_in w made ≡ made_all (kinds_in st s) st.word ++ ahead q world like
 
 -- Both begin alike, and from any state of the machine that events lead to, each step is followed. So the events of a
--- longer list of steps continue those of a shorter one, and calls and all that is outside keep their order among each
--- other. So do exchanges, but for those of an opening, all of which the machine makes as it begins
+-- longer list of steps continue those of a shorter one. So exchanges keep their order among what can be seen, but for those
+-- of an opening, all of which the machine makes as it begins
 pub record EveryStepIsFollowed : Type 0 where
   pub begins : (l : Limits) → l.slots ≡ 1 → Like (start l) (machine.opening l)
   pub follows : (l : Limits) (before : List Event) (w : State) (st q : System) (was : Like st w) (s : Step)

@@ -274,22 +274,18 @@ after_act st i t Settle rest = Some (with_thread st i (goes_on t rest))
 after_act st i t PutTicket rest = Some (with_thread st i (goes_on t rest))
 
 -- the next call of the connection that is out gets a reply
-abbrev pub after_call : System → ℕ → Thread → Reply → Act → Option System
-after_call st i t r Call = option_and_then
+abbrev pub calls : System → ℕ → Thread → Reply → List Act → Option System
+calls st i t r (Call ∷ rest) = option_and_then
     (λ (c : Connection). option_map
     (λ (line : OpenConnection). with_thread (record st { kernel = line.kernel }) i (planned st t (t.left - 1) line.connection))
     (called st.second (record { kernel = st.kernel; connection = c }) r))
     t.out
-after_call st i t r act = None
+calls st i t r todo = None
 
 -- the first act of the rest of the program is made
 abbrev pub acts : System → ℕ → Thread → List Act → Option System
 acts st i t [] = None
 acts st i t (act ∷ rest) = after_act st i t act rest
-
-abbrev pub calls : System → ℕ → Thread → Reply → List Act → Option System
-calls st i t r [] = None
-calls st i t r (act ∷ rest) = after_call st i t r act
 
 -- a thread begins a turn with the oldest of these tickets and this many calls
 abbrev pub begun : System → ℕ → ℕ → List ℕ → Option System

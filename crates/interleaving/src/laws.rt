@@ -5,8 +5,8 @@ ghost use Rattle.interleaving.specs.{Likeness.{EveryInterleavingIsARun, EverySte
 use relay_core::laws;
 
 /// For each list of steps that threads make by their programs, in any order, there is a list of events, allowed one
-/// after the other from the machine's opening, that leads to a like state. Calls and replies, exchanges of the slot's
-/// word with their answers, and what clock, network, kernel, listener and polls do are the same, in the same order,
+/// after the other from the machine's opening, that leads to a like state. Calls with replies, and what clock, network,
+/// kernel, listener and polls do, are the same, in one order. So are the exchanges of the slot's word with their answers,
 /// but that the machine may be ahead in an opening. And no act of a thread is in vain.
 #[tactic(auto, using(crate::proofs::Runs::every_interleaving))]
 pub fn every_interleaving_is_a_run()
@@ -18,7 +18,7 @@ pub fn every_interleaving_is_a_run()
 
 /// Step by step: threads and machine begin alike, and from like states each step of the threads is followed by events
 /// of the machine that lead to like states. So the events for a longer list of steps continue those for a shorter one,
-/// and calls, outside events and, but within an opening, exchanges keep their order among each other.
+/// and exchanges, but within an opening, keep their order among calls and all that is outside.
 #[tactic(auto, using(crate::proofs::Runs::every_step))]
 pub fn every_step_is_followed()
     ensures { EveryStepIsFollowed }

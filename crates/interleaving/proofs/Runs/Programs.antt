@@ -2,7 +2,7 @@
 -- what a thread does, act by act, where no opening is half way. Its imports are passed on to the file above it.
 pub use Rattle.std.{proofs.{Common.{Bool, List, None, Option, Some, [], ap, append-nil, arith, drop, false, if◌then◌else◌, inl, inr, is_some, length, lt-ltb, map, nat_le, nat_lt, not, option_map, refl, replicate, slice_get, slice_set, subst, suc, sym, true, zero, ℕ, ◌&&◌, ◌++◌, ◌+◌, ◌==◌, ◌∙◌, ◌∷◌, ◌≡◌, ◌≢◌, ◌≤◌, ◌⊎◌, length-append, eqb-true, ne_eqb, ◌-◌, append_assoc, eq-eqb, leb-true}, lemmas.{Bool.{or_right, and_parts, cases_eq, Decides.nat_tests}, Option.slice_get_past, List.{map-append, length-replicate, set-set}}}, specs.{Option.is_none, Cmp.second_so, List.flat_map}}
 pub use Rattle.claims.specs.{Words.{WordState, made as exchange_made, some_wait, wakes, word_after}, declared.view.Exchange.Exchange}
-pub use Rattle.interleaving.specs.{Likeness.{OthersRest, exchange, exchanges_in, first_kind, kind_in, left_of, Adopted, Emptied, Entered, Goes, HalfOpen, HasClosed, HasOut, HasRetired, Held, HolderLike, Holds, IsHalfOpen, IsHolder, IsSettled, Leaves, Like, Opens, Placed, Posted, Registered, Rests, Settled, Stage, Stays, ThreadLike, Tries, WorkerFor, WorkersFor, ahead, call_of, call_in, ends_of, machine_of, opened_slot, outside_in, outside_of, ticket, posts, here, Finds}, Threads.{Act, Call, Release, TakeOut, again, ended, open_slot, plan, quiet, turn, Accept, Acts, Begin, Calls, Connect, Deliver, Drop, Network, Open, Poll, Spurious, Step, Sweep, System, Thread, Tick, Vanish, acts, begun, goes_on, is_over, poller_rests, posted, released, rests, step, with_thread, watched_of, is_limited, delivered, delivers, Post, Retire, Give, calls, closed, begins, given, heard, taking, planned, put_in, registered, registering}}
+pub use Rattle.interleaving.specs.{Likeness.{OthersRest, exchanges_in, first_kinds, kinds_in, left_of, made_all, Adopted, Emptied, Entered, Goes, HalfOpen, HasClosed, HasOut, HasRetired, Held, HolderLike, Holds, IsHalfOpen, IsHolder, IsSettled, Leaves, Like, Opens, Placed, Posted, Registered, Rests, Settled, Stage, Stays, ThreadLike, Tries, WorkerFor, WorkersFor, ahead, ends_of, machine_of, opened_slot, ticket, posts, here, visible_in, visible_of, Finds}, Threads.{Act, Call, Release, TakeOut, again, ended, open_slot, plan, quiet, turn, Accept, Acts, Begin, Calls, Connect, Deliver, Drop, Network, Open, Poll, Spurious, Step, Sweep, System, Thread, Tick, Vanish, acts, begun, goes_on, is_over, poller_rests, posted, released, rests, step, with_thread, watched_of, is_limited, delivered, delivers, Post, Retire, Give, calls, closed, begins, given, heard, taking, planned, put_in, registered, registering}}
 pub use Rattle.kernel_model.specs.{Ends.is_nonempty, Kernel.KernelState, declared.{both.Descriptors.Descriptors, reply.Reply.Reply, accepting.Accepting.TheVariants.{Accepted, Blocked, Again, Starved}}}
 pub use Rattle.relay_core.specs.{declared.call.Call.{Call as PairCall}, Order.next_call, Pairs.{PairState, is_live, verdict, fresh}, Replies.fits, Idle.{is_overdue, expired}}
 pub use Rattle.token.specs.{Names.EndName, declared.{name.Name.Name, side.Side.{Side, TheVariants.{Client, Target}}}}
@@ -22,14 +22,14 @@ pub use Rattle.token.specs.declared.name.Name.TheVariants as name
 
 -- What a list of events leads to and shows, after these exchanges
 abbrev pub Shown : Type 0
-Shown = Option State × List (ℕ × Reply) × List Event × List Exchange
+Shown = Option State × List Event × List Exchange
 
 abbrev pub shown : List Exchange → State → List Event → Shown
-shown before w events = (machine_runs.run w events, flat_map call_in events, flat_map outside_in events, before ++ exchanges_in w events)
+shown before w events = (machine_runs.run w events, flat_map visible_in events, before ++ exchanges_in w events)
 
 -- with a step of the threads first, which makes these exchanges
 abbrev pub after_step : Step → List Exchange → Shown → Shown
-after_step s own x = (x.0, call_of s ++ x.1, outside_of s ++ x.2, own ++ x.3)
+after_step s own x = (x.0, visible_of s ++ x.1, own ++ x.2)
 
 -- One step of the threads, which makes these exchanges, and what the machine makes of it, which was ahead by those
 -- before; whatever comes next
@@ -38,6 +38,11 @@ pub record Follows (before own : List Exchange) (w : State) (s : Step) (next : S
   pub world : State
   pub like : Like next world
   pub shows : (more : List Event) → shown before w (events ++ more) ≡ after_step s own (shown (ahead next world like) world more)
+
+pub settled : {st : System} {p : SlotState} {workers : List WorkerState} → st.ends ≡ ends_of p → st.word ≡ word_at p
+    → (is_by_worker p.holder ≡ false → st.place ≡ p.connection) → WorkersFor st.limits.budget st.place p workers st.threads
+    → Settled st p workers
+settled ends word place threads = record { ends = ends; word = word; place = place; threads = threads }
 
 -- by these events, where no opening is half way before or after
 follow : {own : List Exchange} {w : State} {s : Step} {next : System} (events : List Event) (q : SlotState) (workers : List WorkerState) → Settled next q workers
@@ -70,16 +75,15 @@ pub half_frame : {st : System} {t : Thread} {c : Connection} {workers : List Wor
     → Frame st (left_of t.todo st.word) (opened_slot t.generation c) t.generation (t.generation ∷ []) workers
 half_frame {t = t} {c} {workers} s = record { ends = s.ends; like = λ b. IsHalfOpen t c workers refl (assumption s); ahead_is = λ b. refl }
 
+over_ends : (o : Option Connection) (side : Side) → option_map (λ (c : Connection). watched.End (descriptor c.ends side)) o
+    ≡ option_map (λ (ends : Descriptors). watched.End (descriptor ends side)) (option_map (λ (c : Connection). c.ends) o)
+over_ends o side = grind arith
+
 same_watched : (st : System) (p : SlotState) (entry : ℕ) (tickets : List ℕ) (workers : List WorkerState) → st.ends ≡ ends_of p
     → (who : Reported) → machine.watched_of (machine_of st p entry tickets workers) (here who) ≡ watched_of st who
 same_watched st p entry tickets workers ends reported.Listener = refl
 same_watched st p entry tickets workers ends reported.Waker = refl
-same_watched st p entry tickets workers ends (reported.End s side) = rw ends (joined p.connection)
-  where
-    joined : (o : Option Connection) → option_map (λ (c : Connection). watched.End (descriptor c.ends side)) o
-        ≡ option_map (λ (ends : Descriptors). watched.End (descriptor ends side)) (option_map (λ (c : Connection). c.ends) o)
-    joined None = refl
-    joined (Some c) = refl
+same_watched st p entry tickets workers ends (reported.End s side) = rw ends (over_ends p.connection side)
 
 -- the steps that no thread and no post makes
 abbrev pub is_beyond : Step → Bool
@@ -242,14 +246,9 @@ module _ {st : System} {p : SlotState} {workers : List WorkerState} (set : Settl
   world = machine_of st p st.entry st.tickets workers
 
   settled_post : (g : ℕ) (batch : List Name) → Settled (with_batch (posted st g) batch) (with_note p g) workers
-  settled_post g batch = record {
-    ends = set.ends;
-    word = ap (word_after word.post) set.word ∙ post_word p g;
-    place = set.place;
-    threads = λ i t there.
-        let it = set.threads i t there in
-        record { worker = it.worker; there = it.there; like = noted_like g it.like };
-  }
+  settled_post g batch = settled set.ends (ap (word_after word.post) set.word ∙ post_word p g) set.place (λ i t there.
+      let it = set.threads i t there in
+      record { worker = it.worker; there = it.there; like = noted_like g it.like })
 
   -- the machine's posts, by an event that does this
   posts_by : (s : Step) (e : Event) (g : ℕ) (batch : List Name) (b : Bool) → brings_ticket p ≡ b
@@ -265,7 +264,7 @@ module _ {st : System} {p : SlotState} {workers : List WorkerState} (set : Settl
   -- a report of an end
 
   abbrev Delivers : Name → List Name → Type 0
-  Delivers n rest = Follows [] (exchange st.word (posts st (n ∷ rest))) world Deliver (record (delivered st n) { batch = rest })
+  Delivers n rest = Follows [] (made_all (posts st (n ∷ rest)) st.word) world Deliver (record (delivered st n) { batch = rest })
 
   delivers_end : (n : EndName) (rest : List Name) → st.batch ≡ name.End n ∷ rest → (n.slot ≡ 0) ⊎ (n.slot ≢ 0) → (b : Bool) → (st.entry == n.generation) ≡ b → Delivers (name.End n) rest
   delivers_end n rest is (inl first) true own =
@@ -273,15 +272,15 @@ module _ {st : System} {p : SlotState} {workers : List WorkerState} (set : Settl
   delivers_end n rest is (inl first) false own = rw (first, own) (alone (settled_frame set) (event.Poll polling.Deliver) (λ more. rw (is, first, own)))
   delivers_end n rest is (inr other) b own = rw (ne_eqb _ _ other) (alone (settled_frame set) (event.Poll polling.Deliver) (λ more. rw (is, slice_get_past (st.entry ∷ []) n.slot (omega arith))))
 
-  delivers_all : (batch : List Name) → st.batch ≡ batch → Kept (Follows [] (exchange st.word (posts st batch)) world Deliver) (delivers st batch)
+  delivers_all : (batch : List Name) → st.batch ≡ batch → Kept (Follows [] (made_all (posts st batch) st.word) world Deliver) (delivers st batch)
   delivers_all [] is = kept_none
   delivers_all (name.End n ∷ rest) is = kept_some (delivers_end n rest is (cases_eq n.slot 0) (st.entry == n.generation) refl)
   delivers_all (n ∷ rest) is = kept_some (alone (settled_frame set) (event.Poll polling.Deliver) (λ more. rw is))
 
-  pub reports : Kept (Follows [] (exchange st.word (kind_in st Deliver)) world Deliver) (step st Deliver)
+  pub reports : Kept (Follows [] (made_all (kinds_in st Deliver) st.word) world Deliver) (step st Deliver)
   reports = kept_when (poller_rests st) _ (λ b. delivers_all st.batch refl)
 
-  pub sweeps : Kept (Follows [] (exchange st.word (kind_in st Sweep)) world Sweep) (step st Sweep)
+  pub sweeps : Kept (Follows [] (made_all (kinds_in st Sweep) st.word) world Sweep) (step st Sweep)
   sweeps = kept_guard _ _ (λ b.
       let parts = and_parts (is_limited st) (nat_lt 0 st.entry) (second_so (poller_rests st) _ b) in
       posts_by Sweep (event.Poll (polling.Sweep 0)) st.entry st.batch (brings_ticket p) refl (λ more. rw (parts.0, parts.1)))
@@ -392,7 +391,7 @@ module _ (st : System) (p : SlotState) (workers : List WorkerState) (set : Settl
   begins_with is most within [] tickets = kept_none
   begins_with is most within (g ∷ rest) tickets = kept_some
       (follow (event.Work i act.Pop ∷ []) p (slice_set workers i (busy (doing.Tries (ticket g))))
-      (record { ends = set.ends; word = set.word; place = set.place; threads = both_go (λ j u v other like. like) (Tries within refl) })
+      (settled set.ends set.word set.place (both_go (λ j u v other like. like) (Tries within refl)))
       (λ more. rw (had, is, tickets)))
 
   pub begins_turn : ThreadLike st.limits.budget st.place p i t k t.todo → (most : ℕ) → Kept (Follows [] [] w (Begin i most)) (begins st i most t)
@@ -402,7 +401,7 @@ module _ (st : System) (p : SlotState) (workers : List WorkerState) (set : Settl
 
   pub begins_opening : i ≡ 0 → ThreadLike st.limits.budget st.place p i t k t.todo → rests t ≡ true → Follows [] [] w Open (with_thread st i (goes_on t open_slot))
   begins_opening first like r = follow [] p workers
-      (record { ends = set.ends; word = set.word; place = set.place; threads = goes (λ j u v other like. like) (Opens first (rests_like like r)) })
+      (settled set.ends set.word set.place (goes (λ j u v other like. like) (Opens first (rests_like like r))))
       (λ more. refl)
 
   -- while it holds the slot with its connection
@@ -418,19 +417,15 @@ module _ (st : System) (p : SlotState) (workers : List WorkerState) (set : Settl
     -- the connection is back in its place
     put_back : t.out ≡ Some c → (rest : List Act) → HolderLike st.limits.budget (Some c) p (record t { out = None; todo = rest }) c more rest → Acted [] (put_in st i t rest)
     put_back out rest at = rw out (follow [] p workers
-        (record { ends = set.ends; word = set.word; place = not_nobody; threads = goes (others held.holder refl) (IsHolder c more held is at) }) (λ es. refl))
+        (settled set.ends set.word not_nobody (goes (others held.holder refl) (IsHolder c more held is at))) (λ es. refl))
 
     -- a release
 
     released_like : st.place ≡ Some c → (tickets : List ℕ)
         → Settled (with_thread (record st { word = word_after word.release st.word; tickets = tickets }) i (goes_on t [])) (record p { holder = Nobody })
         (slice_set workers i idle_worker)
-    released_like at tickets = record {
-      ends = set.ends;
-      word = rw (set.word, held.holder) refl;
-      place = λ yes. at ∙ sym held.there;
-      threads = both_go (others held.holder refl) (Rests refl);
-    }
+    released_like at tickets = settled set.ends (rw (set.word, held.holder) refl) (λ yes. at ∙ sym held.there)
+        (both_go (others held.holder refl) (Rests refl))
 
     releases : st.place ≡ Some c → (b : Bool) → is_nonempty p.notes ≡ b → may_release c b ≡ true
         → Acted (exchange_made word.release st.word ∷ []) (with_thread (released st t.generation) i (goes_on t []))
@@ -449,24 +444,17 @@ module _ (st : System) (p : SlotState) (workers : List WorkerState) (set : Settl
     -- the connection is closed
     closes : st.place ≡ None → is_live (verdict c.pair) ≡ false → Kept (Acted []) (closed st i t (Retire ∷ Give ∷ []) c)
     closes at over = kept_map _ _ (λ told may.
-        follow (event.Work i act.Close ∷ []) (record p { connection = None }) (slice_set workers i (busy (doing.Closed 0))) (record {
-          ends = refl;
-          word = set.word;
-          place = not_nobody;
-          threads = both_go (others held.holder refl) (HasClosed holds_on at refl);
-        }) (λ es. rw (had, is, held.there, over, may)))
+        follow (event.Work i act.Close ∷ []) (record p { connection = None }) (slice_set workers i (busy (doing.Closed 0)))
+        (settled refl set.word not_nobody (both_go (others held.holder refl) (HasClosed holds_on at refl))) (λ es. rw (had, is, held.there, over, may)))
 
     -- the next act
-    holder_acts : {todo : List Act} → Turns w → HolderLike st.limits.budget st.place p t c more todo → Kept (Acted (exchange st.word (first_kind todo))) (acts st i t todo)
+    holder_acts : {todo : List Act} → Turns w → HolderLike st.limits.budget st.place p t c more todo → Kept (Acted (made_all (first_kinds todo) st.word)) (acts st i t todo)
     -- it takes the connection out, which is its ticket's own
     holder_acts turns (Holds at least all some) =
         let own = own_generation (facts w 0 p.generation) p c ((turns.each 0 p refl).connection c held.there).stands ∙ held.generation in
-        kept_some (rw (at, eq-eqb _ _ own) (follow [] p workers (record {
-          ends = set.ends;
-          word = set.word;
-          place = not_nobody;
-          threads = goes (others held.holder refl) (IsHolder c more held is (HasOut refl refl least all some));
-        }) (λ es. refl)))
+        kept_some (rw (at, eq-eqb _ _ own) (follow [] p workers
+        (settled set.ends set.word not_nobody (goes (others held.holder refl) (IsHolder c more held is (HasOut refl refl least all some))))
+        (λ es. refl)))
     -- it takes the notes
     holder_acts turns (HasOut at out least all some) = rw out (
         let heard_now = heard st.word.pending c in
@@ -474,14 +462,12 @@ module _ (st : System) (p : SlotState) (workers : List WorkerState) (set : Settl
         let b = is_overdue st.second st.limits.idle heard_now.pair in
         let count : length p.notes ≡ st.word.pending = rw set.word refl in
         let same : machine.heard c p.notes ≡ heard_now = heard_as c p.notes ∙ rw count refl in
-        kept_some (follow (event.Work i act.Take ∷ expires i b) (record p { notes = []; connection = Some e }) workers (record {
-          ends = set.ends ∙ rw (held.there, same_ends st.word.pending c) refl;
-          word = rw set.word refl;
-          place = not_nobody;
-          threads = goes (others held.holder refl) (IsHolder e more holds_on is (Goes at refl (omega arith)));
-        }) (λ es. rw (had, is, held.there, same, count) (ap (λ (x : Shown). (x.0, x.1, x.2, exchange_made word.take st.word ∷ x.3))
+        kept_some (follow (event.Work i act.Take ∷ expires i b) (record p { notes = []; connection = Some e }) workers
+        (settled (set.ends ∙ rw (held.there, same_ends st.word.pending c) refl) (rw set.word refl) not_nobody
+        (goes (others held.holder refl) (IsHolder e more holds_on is (Goes at refl (omega arith)))))
+        (λ es. rw (had, is, held.there, same, count) (ap (λ (x : Shown). (x.0, x.1, exchange_made word.take st.word ∷ x.2))
         (limited (taking st i t [] (Some c)) (record p { notes = [] }) heard_now workers i more (had ∙ ap Some is) b refl es)))))
-    holder_acts turns (Goes at out least) = by_plan (λ todo. Kept (Acted (exchange st.word (first_kind todo))) (acts st i t todo)) t.left c.pair
+    holder_acts turns (Goes at out least) = by_plan (λ todo. Kept (Acted (made_all (first_kinds todo) st.word)) (acts st i t todo)) t.left c.pair
         (λ live none. kept_some (put_back out (Release ∷ []) (Leaves refl (rests_now c (is_nonempty p.notes) live none))))
         (λ live call next spent. kept_some (put_back out (Post ∷ Release ∷ []) (Stays refl live)))
         (λ live call next left. kept_none)
@@ -491,12 +477,10 @@ module _ (st : System) (p : SlotState) (workers : List WorkerState) (set : Settl
         let g = c.pair.generation in
         let held_word : st.word.held ≡ true = rw (set.word, held.holder) refl in
         let woke : wakes st.word ≡ false = rw held_word refl in
-        kept_some (rw woke (follow (event.Work i act.Post ∷ []) (with_note p g) workers (record {
-          ends = set.ends;
-          word = ap (word_after word.post) set.word ∙ post_word p g;
-          place = not_nobody;
-          threads = goes (others held.holder refl) (IsHolder c more (still g held) is (Leaves at (rw (some_more p.notes g) (due_now c live))));
-        }) (λ es. rw (had, is, held.there, live, held.holder))))
+        kept_some (rw woke (follow (event.Work i act.Post ∷ []) (with_note p g) workers
+        (settled set.ends (ap (word_after word.post) set.word ∙ post_word p g) not_nobody
+        (goes (others held.holder refl) (IsHolder c more (still g held) is (Leaves at (rw (some_more p.notes g) (due_now c live))))))
+        (λ es. rw (had, is, held.there, live, held.holder))))
     holder_acts turns (Leaves at may) = kept_some (releases at (is_nonempty p.notes) refl may)
 
     -- and the next call
@@ -509,12 +493,10 @@ module _ (st : System) (p : SlotState) (workers : List WorkerState) (set : Settl
         let busier = busy (doing.Holds 0 (more - 1)) in
         let made = slot_calls st.second p st.kernel c r line held.there replied in
         let ends = kept_at (called st.second (record { kernel = st.kernel; connection = c }) r) line replied (all_keep_ends st.second (record { kernel = st.kernel; connection = c }) r) in
-        follow (event.Work i (act.Call r) ∷ expires i b) (record p { connection = Some d }) (slice_set workers i busier) (record {
-          ends = set.ends ∙ rw (held.there, ends) refl;
-          word = set.word;
-          place = not_nobody;
-          threads = both_go (others held.holder refl) (IsHolder d (more - 1) holds_on refl (Goes at refl (omega arith)));
-        }) (λ es. rw (had, is, some_left, made) (ap (λ (x : Shown). (x.0, (i, r) ∷ x.1, x.2, x.3))
+        follow (event.Work i (act.Call r) ∷ expires i b) (record p { connection = Some d }) (slice_set workers i busier)
+        (settled (set.ends ∙ rw (held.there, ends) refl) set.word not_nobody
+        (both_go (others held.holder refl) (IsHolder d (more - 1) holds_on refl (Goes at refl (omega arith)))))
+        (λ es. rw (had, is, some_left, made) (ap (λ (x : Shown). (x.0, event.Work i (act.Call r) ∷ x.1, x.2))
         (limited (with_thread (record st { kernel = line.kernel }) i (planned st t (t.left - 1) line.connection)) p line.connection (slice_set workers i busier) i (more - 1)
         (get-set_same workers i k busier had) b refl es)))))))
         (λ over. kept_none)
@@ -524,7 +506,7 @@ module _ (st : System) (p : SlotState) (workers : List WorkerState) (set : Settl
       ≡ Some (machine_of (with_thread (record st { free = free }) i (goes_on t [])) p st.entry st.tickets (slice_set workers i idle_worker))
       → Acted [] (with_thread (record st { free = free }) i (goes_on t []))
   gives_to own is free can = follow (event.Work i act.Free ∷ []) p (slice_set workers i idle_worker)
-      (record { ends = set.ends; word = set.word; place = set.place; threads = both_go (λ j u v other like. like) (Rests refl) }) (λ more. rw (can, had))
+      (settled set.ends set.word set.place (both_go (λ j u v other like. like) (Rests refl))) (λ more. rw (can, had))
 
   gives : p.generation ≡ t.generation → k ≡ busy (doing.Retired 0) → (b : Bool) → is_worn t.generation ≡ b → Acted [] (with_thread (given st t.generation) i (goes_on t []))
   gives own is true worn = rw worn (gives_to own is st.free (rw (had, is, own, worn)))
@@ -563,7 +545,7 @@ module _ (st : System) (p : SlotState) (workers : List WorkerState) (set : Settl
             shows = λ more. rw (accepted, some, one, two, no_ticket, set.word);
           })))))
 
-    pub thread_acts : {todo : List Act} → ThreadLike st.limits.budget st.place p i t k todo → Kept (Acted (exchange st.word (first_kind todo))) (acts st i t todo)
+    pub thread_acts : {todo : List Act} → ThreadLike st.limits.budget st.place p i t k todo → Kept (Acted (made_all (first_kinds todo) st.word)) (acts st i t todo)
     thread_acts (Rests is) = kept_none
     thread_acts (Opens first is) = registers first is st.free refl
     -- it claims the slot, which nobody holds
@@ -573,22 +555,18 @@ module _ (st : System) (p : SlotState) (workers : List WorkerState) (set : Settl
         let own = names_it w i k (ticket t.generation) p had does refl turns in
         let c = some_there p.connection wait.lies in
         let free : st.word.held ≡ false = rw (set.word, wait.holder) refl in
-        kept_some (rw free (follow (event.Work i act.Claim ∷ []) (record p { holder = By i }) (slice_set workers i (busy (doing.Holds 0 st.limits.budget))) (record {
-          ends = set.ends;
-          word = rw (set.word, wait.holder) refl;
-          place = λ nobody. cc;
-          threads = both_go (λ j u v other like. apart (λ by. cc wait.holder) refl like)
-              (IsHolder c.0 st.limits.budget (record { holder = refl; there = c.1; generation = sym own }) refl (Holds (set.place (rw wait.holder refl) ∙ c.1) least refl wait.some));
-        }) (λ more. rw (had, is, wait.holder, set.word))))
+        kept_some (rw free (follow (event.Work i act.Claim ∷ []) (record p { holder = By i }) (slice_set workers i (busy (doing.Holds 0 st.limits.budget)))
+        (settled set.ends (rw (set.word, wait.holder) refl) (λ nobody. cc) (both_go (λ j u v other like. apart (λ by. cc wait.holder) refl like)
+        (IsHolder c.0 st.limits.budget (record { holder = refl; there = c.1; generation = sym own }) refl
+        (Holds (set.place (rw wait.holder refl) ∙ c.1) least refl wait.some))))
+        (λ more. rw (had, is, wait.holder, set.word))))
     thread_acts (IsHolder c more held is at) = holder_acts c more held is turns at
     -- the slot is retired
     thread_acts (HasClosed held at is) = kept_some
-        (follow (event.Work i act.Retire ∷ []) (record p { holder = Free }) (slice_set workers i (busy (doing.Retired 0))) (record {
-          ends = set.ends;
-          word = rw (set.word, held.holder) refl;
-          place = λ yes. at ∙ sym held.there;
-          threads = both_go (others held.holder refl) (HasRetired held.generation refl);
-        }) (λ more. rw (had, is)))
+        (follow (event.Work i act.Retire ∷ []) (record p { holder = Free }) (slice_set workers i (busy (doing.Retired 0)))
+        (settled set.ends (rw (set.word, held.holder) refl) (λ yes. at ∙ sym held.there)
+        (both_go (others held.holder refl) (HasRetired held.generation refl)))
+        (λ more. rw (had, is)))
     thread_acts (HasRetired own is) = kept_some (gives own is (is_worn t.generation) refl)
 
   pub thread_calls : {todo : List Act} → ThreadLike st.limits.budget st.place p i t k todo → (r : Reply) → Kept (Follows [] [] w (Calls i r)) (calls st i t r todo)
