@@ -1,17 +1,14 @@
 -- Left alone, the threads come to rest: each step leaves a sound state, which the relay's own steps make lighter.
-pub mod Weights
 pub mod Acts
-use Rattle.std.{proofs.{Common.{Bool, List, None, Option, Some, Vec, [], ap, arith, drop, false, get_or, if◌then◌else◌, inl, inr, le-leb, length, lt-ltb, ltb-true, nat_le, nat_lt, not, option_map, refl, replicate, slice_get, slice_set, subst, suc, sym, true, zero, ℕ, ◌&&◌, ◌*◌, ◌++◌, ◌+◌, ◌-◌, ◌<◌, ◌==◌, ◌∙◌, ◌∷◌, ◌≡◌, ◌≢◌, ◌≤◌, ◌⊎◌}, lemmas.{Bool.{Decides.nat_tests, and_parts}, List.{length-replicate, length-set}, Option.{option_and_then_some, slice_get-get_or}}}, specs.{Cmp.{first_so, second_so}, Global.Global, List.{list_all, list_any}, Option.option_flatten}}
-use Rattle.claims.specs.Words.{one}
-use Rattle.kernel_model.specs.{Ends.is_nonempty, Kernel.{KernelState, Registered, end_at}, Names.{are_among, are_distinct}, declared.{accepting.Accepting.TheVariants.{Accepted, Again, Blocked, Starved}, both.Descriptors.Descriptors}}
-use Rattle.token.specs.{Names.last_generation, declared.{kind.Kind.TheVariants.Reset, name.Name.Name, side.Side.{TheVariants.{Client, Target}, Side}}}
-use Rattle.world.{proofs.Headline.Ends.Pairs.Holders.{Events.{Lists.{Kept, get-replicate, get-set_other, kept_at, kept_bind, kept_guard, kept_map, kept_none, kept_over, kept_some, kept_when, total_none}, Happens, Ticks, holds_after}, SlotOk, Turns, facts, turns_after, worker_closes, worker_holds}, specs.{Calls.{OpenConnection, descriptor}, CoreLaws.CoreLaws, Due.{due, due_place, has_ticket, movable}, Headline.ListenerHolds, Slots.{SlotState, WorkerState, is_by_worker, is_held}, States.{State, opening, resting as idle_worker}, Steps.{change_at, token_of}, Support.{one as one_if, total, worker_tickets}, declared.{actors.Holder.{TheVariants.{By, Free, Nobody}, Holder}, connection.Connection.Connection, event.Event.Event, limits.Limits.Limits}}}
-use Rattle.interleaving.{proofs.{Rest.{Acts.{Calling, Ending, Fine, Known, Nothing, Opening, Sound, acts_fine, begins_fine, calls_fine, goes, known, posted_weighs}, Weights.{polled, same_self}}, Runs.{Programs.{rests_like, some_there}, run_on, stage_acts}}, specs.{Likeness.{EveryInterleavingIsARun, IsARun, IsHalfOpen, IsSettled, Like, NoActInVain, Settled, machine_of}, Rest.{HasStopped, LeftAloneItEnds, LeftAloneItRests, is_own, weight}, Threads.{Accept, Act, Acts as DoesAct, Begin, Calls, Connect, Deliver, Drop, Network, Open, Poll, Spurious, Step, Sweep, System, Thread, Tick, Vanish, acts, delivers, ended, is_over, open_slot, poller_rests, posted, registering, resting, rests, run, start, step, watched_of}}}
+use Rattle.interleaving.{proofs.Runs.{run_on, stage_acts, Programs.{rests_like, some_there}}, specs.{Likeness.{EveryInterleavingIsARun, IsARun, NoActInVain, Settled}, Rest.{HasStopped, LeftAloneItEnds, LeftAloneItRests, is_own}, Threads.{Accept, Acts as DoesAct, Begin, Calls, Connect, Deliver, Drop, Network, Open, Poll, Spurious, Step, Sweep, Tick, Vanish, delivers, is_over, poller_rests, resting, rests, run, start, step, watched_of}}}
+use Rattle.kernel_model.specs.{Ends.is_nonempty, declared.accepting.Accepting.TheVariants.{Accepted, Again, Blocked, Starved}}
+use Rattle.relay_core.specs.declared.call.Call.{Call as PairCall}
+use Rattle.std.{proofs.{Common.{Vec, le-leb, lt-ltb, ltb-true, nat_lt, option_map, replicate, ◌&&◌, ◌++◌, ◌==◌}, lemmas.{List.length-replicate, Option.{option_and_then_some, slice_get-get_or}}}, specs.{Cmp.{first_so, second_so}, Global.Global, List.{list_all, list_any}, Option.option_flatten}}
+use Rattle.token.specs.declared.kind.Kind.TheVariants.{Reset}
+use Rattle.world.{proofs.Headline.Ends.Pairs.Holders.{SlotOk, facts, turns_after, worker_closes, worker_holds, Events.{Happens, Ticks, holds_after, Lists.{get-replicate, get-set_other, kept_guard, total_none}}}, specs.{CoreLaws.CoreLaws, Due.{due, due_place, has_ticket, movable}, Headline.ListenerHolds, Slots.{is_by_worker, is_held}, States.{opening, resting as idle_worker}, Steps.change_at, Support.{one as one_if, worker_tickets}, declared.{actors.Holder.{Holder, TheVariants.{By, Free, Nobody}}, event.Event.Event}}}
 use denote.RawPtr.{null_ptr}
-use Rattle.relay_core.specs.{Calls.side_of, Order.next_call, declared.{call.{Call.{TheVariants.Read, Call as PairCall}}}}
 unfoldable use Rattle.world.specs.Calls.{called}
-use Rattle.kernel_model.specs.Kernel as kernel
-use Rattle.token.specs.declared.name.Name.TheVariants as name
+use Acts.*
 use Rattle.kernel_model.specs.declared.reply.Reply.TheVariants as reply
 use Rattle.world.specs.Runs as machine_runs
 

@@ -1,13 +1,10 @@
 -- Each slot of a server can be looked at alone.
-pub mod Leaves
 pub mod Steps
-use Rattle.std.{proofs.{Common.{Bool, List, None, Some, Vec, [], ap, append-nil, arith, eq-eqb, eqb-true, false, if◌then◌else◌, inl, inr, le-leb, leb-true, length, nat_lt, ne_eqb, not, refl, replicate, slice_get, suc, sym, true, zero, ℕ, ◌&&◌, ◌++◌, ◌+◌, ◌-◌, ◌<◌, ◌==◌, ◌||◌, ◌∙◌, ◌∷◌, ◌≡◌, ◌≢◌, ◌≤◌, ◌⊎◌}, lemmas.{Bool.{Decides.nat_tests, and_parts, cases_eq, ltb-true}, List.nil_from_length, Option.{option_and_then_some, same_Some}}}, specs.{Cmp.second_so, Global.Global, List.list_any}}
-use Rattle.world.proofs.Headline.Ends.Pairs.Holders.Events.Lists.{Kept, kept_at, kept_guard, kept_map, kept_none, kept_some, kept_when}
-use Rattle.interleaving.{proofs.{Runs.run_on, Slots.{Leaves.{leaves_acting, leaves_calling, leaves_network, leaves_spurious, leaves_sweep, leaves_tick, leaves_vanish}, Steps.{Alone, Apart, AreOwn, AtSlot, Between, FrontHolds, FrontsHold, Next, at_each, begins, by_still, by_thread, count, delivers_end, fewer_names, framed, opens, own_reports, queued, rank_first, same_names, taken_here, taken_there, tickets_append}}}, specs.{Likeness.EveryInterleavingIsARun, Slots.{Accept, Acts, AllStandApart, Begin, Calls, Connect, Deliver, Drop, Front, Listener, Many, Network, Of, Open, Poll, Put, Refuse, Report, Retract, Rumour, Sees, SeesAll, Server, SlotsStandApart, Spurious, Step, Stop, Sweep, Taken, Tick, Vanish, Waker, answered, are_queued, delivering, first_of, is_listener, makes, may, may_accept, names_at, one_slot, polled, rank, rank_at, rests, run, shared, slot_of, start, step, suits, tickets_at, told, unqueued, with_front}, Threads.{System, resting, rests_at}}}
+use Rattle.interleaving.{proofs.Runs.run_on, specs.{Likeness.EveryInterleavingIsARun, Slots.{Accept, Acts, AllStandApart, Calls, Connect, Drop, Network, Poll, Put, Refuse, Retract, Rumour, SeesAll, SlotsStandApart, Spurious, Stop, Sweep, Tick, Vanish, answered, may, may_accept, polled, run, shared, start, step, told, unqueued, with_front}, Threads.resting}}
+use Rattle.kernel_model.specs.declared.accepting.Accepting.{Accepting, TheVariants.{Again, Blocked, Starved}}
+use Rattle.std.{proofs.{Common.{Vec, le-leb, leb-true, replicate, ◌-◌}, lemmas.{Bool.ltb-true, Option.option_and_then_some}}, specs.Global.Global}
 use denote.RawPtr.{null_ptr}
-use Rattle.kernel_model.specs.declared.accepting.Accepting.{TheVariants.{Accepted, Again, Blocked, Starved}, Accepting}
-use Rattle.token.specs.declared.name.Name.{Name}
-use Rattle.interleaving.specs.Threads as alone
+use Steps.*
 use Rattle.world.specs.declared.event.Reported.TheVariants as reported
 
 -- once a client waits, a front holds by what is on its way; the backlog may have any size then

@@ -1,13 +1,12 @@
 -- A whole server, left alone, comes to rest: each of its own steps makes it lighter.
-use Rattle.std.{proofs.{Common.{Bool, List, None, Option, Some, [], ap, arith, drop, eq-eqb, false, if◌then◌else◌, inl, inr, length, length-append, ltb-true, map, nat_le, nat_lt, ne_eqb, not, option_map, refl, suc, sym, true, zero, ℕ, ◌&&◌, ◌*◌, ◌++◌, ◌+◌, ◌-◌, ◌<◌, ◌==◌, ◌∙◌, ◌∷◌, ◌≡◌, ◌≢◌, ◌≤◌, ◌⊎◌}, lemmas.{Bool.{and_parts, cases_eq}, List.length-drop, Option.{option_and_then_some, same_Some}}}, specs.{Cmp.second_so, List.{list_all, list_any}}}
 use Rattle.claims.specs.Words.{one}
-use Rattle.kernel_model.specs.{Kernel.reported, Names.{has, without_names}, declared.accepting.Accepting.{TheVariants.{Accepted, Again, Blocked, Starved}, Accepting}}
-use Rattle.token.specs.declared.name.Name.{TheVariants.{Listener as listener_name}, Name}
+use Rattle.interleaving.{proofs.{Rest.Acts.Weights.{most_at, not_so, polled as left_queue}, Runs.run_on, Slots.{Reached, between, first, goes, next, reach, Steps.{Next, Stood, queued, set_here, set_there, stood, turn_of}}}, specs.{Likeness.EveryInterleavingIsARun, Rest.{LeftAloneItEnds, client_weight, most}, Slots.{Accept, Acts, Begin, Calls, Deed, Deliver, Drop, Front, Listener, Many, Of, Open, Poll, Put, Report, Sees, Server, Step, Taken, Ticket, Waker, answered, are_queued, besides, deed, delivering, first_of, in_hand, is_listener, makes, may, may_accept, names_at, one_slot, opening, polled, rank_at, rests, run, set, shared, slot_of, start, step, steps_at, suits, tickets_at, with_front, written}, Threads.System, Whole.{ServersComeToRest, accepted_weight, front_weight, hand_weight, is_own, is_waker, report_weight, wakes, weight}}}
+use Rattle.kernel_model.specs.{Kernel.reported, Names.{has, without_names}, declared.accepting.Accepting.{Accepting, TheVariants.{Accepted, Again, Blocked, Starved}}}
+use Rattle.std.{proofs.{Common.{Bool, List, None, Option, Some, [], ap, arith, drop, eq-eqb, false, if◌then◌else◌, inl, inr, length, length-append, ltb-true, map, nat_le, nat_lt, ne_eqb, not, option_map, refl, suc, sym, true, zero, ℕ, ◌&&◌, ◌*◌, ◌++◌, ◌+◌, ◌-◌, ◌<◌, ◌==◌, ◌∙◌, ◌∷◌, ◌≡◌, ◌≢◌, ◌≤◌, ◌⊎◌}, lemmas.{Bool.{and_parts, cases_eq}, List.length-drop, Option.{option_and_then_some, same_Some}}}, specs.{Cmp.second_so, List.{list_all, list_any}}}
+use Rattle.token.specs.declared.name.Name.{Name, TheVariants.Listener as listener_name}
 use Rattle.world.{proofs.Headline.Ends.Pairs.Holders.Events.Lists.{Kept, kept_at, kept_guard, kept_map, kept_none, kept_over, kept_some, kept_when, total_le, total_push}, specs.{Calls.when, States.numbers_below, Support.total}}
-use Rattle.interleaving.{proofs.{Rest.{Weights.{most_at, not_so, polled as left_queue}}, Runs.run_on, Slots.{Steps.{Found, Next, found, queued, set_here, set_there, turn_of}, Reached, between, first, goes, next, reach}}, specs.{Likeness.EveryInterleavingIsARun, Rest.{LeftAloneItEnds, client_weight, most}, Slots.{Accept, Acts, Begin, Calls, Deed, Deliver, Drop, Front, Listener, Many, Of, Open, Poll, Put, Report, Sees, Server, Step, Taken, Ticket, Waker, answered, are_queued, besides, deed, delivering, first_of, in_hand, is_listener, makes, may, may_accept, names_at, one_slot, opening, polled, rank_at, rests, run, set, shared, slot_of, start, step, steps_at, suits, tickets_at, with_front, written}, Threads.System, Whole.{ServersComeToRest, accepted_weight, front_weight, hand_weight, is_own, is_waker, report_weight, wakes, weight}}}
 use Rattle.interleaving.specs.Threads as alone
 use Rattle.interleaving.specs.Rest as slot
-use Rattle.kernel_model.specs.Kernel as kernel
 
 -- Totals over the numbers below n
 
@@ -45,17 +44,17 @@ hands_more s i [] [] = refl
 hands_more s i [] (g ∷ gs) = let rest = hands_more s i [] gs in omega arith
 hands_more s i (t ∷ ts) gs = let rest = hands_more s i ts gs in omega arith
 
--- the test passes the ticket that is taken, and the weight is split
-abbrev Splits : (Ticket → Bool) → List Ticket → Taken → Type 0
-Splits test ts c = (test c.ticket ≡ true) × (total hand_weight c.rest + hand_weight c.ticket ≡ total hand_weight ts)
+total_append : {X : Type 0} (f : X → ℕ) (xs ys : List X) → total f (xs ++ ys) ≡ total f xs + total f ys
+total_append f [] ys = omega arith
+total_append f (x ∷ xs) ys = omega (arith, total_append f xs ys)
 
-taken_weighs : (test : Ticket → Bool) (ts : List Ticket) (c : Taken) → first_of test ts ≡ Some c → Splits test ts c
-taken_weighs test [] c is = cc
-taken_weighs test (t ∷ ts) c is = by (found test t ts c is) (λ d there. taken_weighs test ts d there)
-  where
-    by : Found test t ts c → ((d : Taken) → first_of test ts ≡ Some d → Splits test ts d) → Splits test (t ∷ ts) c
-    by (inl it) lower = rw it.0 (it.1, omega arith)
-    by (inr it) lower = let rest = lower it.0 it.1 in rw it.2 (rest.0, omega arith)
+-- the weight is split
+taken_weighs : {test : Ticket → Bool} {ts : List Ticket} {c : Taken} → Stood test ts c
+    → total hand_weight c.rest + hand_weight c.ticket ≡ total hand_weight ts
+taken_weighs {c = c} it =
+    let rest = total_append hand_weight it.before it.after in
+    let whole = total_append hand_weight it.before (c.ticket ∷ it.after) in
+    omega (arith, ap (total hand_weight) it.rest, ap (total hand_weight) it.whole)
 
 -- Reports
 
@@ -236,14 +235,14 @@ module _ (law : EveryInterleavingIsARun) (ends : LeftAloneItEnds) (server : Serv
         let d = turn_of m i most c in
         let sees : IsAt (Begin i from most) (λ t. steps_at t (Some d)) = λ t own e. e ∙ ap (λ (o : Option Taken). steps_at t (option_map (turn_of m i most) o)) is in
         by_one (Begin i from most) d (λ q. besides m (Begin i from most) (written m d q)) sees (rw four refl) refl (λ q slots hands.
-        rw is (omega (arith, rw is at slots, (taken_weighs (suits i from) m.tickets c is).1)))
+        rw is (omega (arith, rw is at slots, taken_weighs (stood (suits i from) m.tickets c is))))
 
     puts : (i s : ℕ) → Kept (Lighter (Put i s)) (shared m (Put i s))
     puts i s = kept_map _ (first_of (suits i (Some s)) m.tickets) (λ c is it.
-        let taken = taken_weighs (suits i (Some s)) m.tickets c is in
+        let taken = stood (suits i (Some s)) m.tickets c is in
         let slots = slots_same (Put i s) (record m { tickets = c.rest ++ record c.ticket { hand = None } ∷ [] }) it (λ t own e. e) in
-        let held : hand_weight c.ticket ≡ 1 = (let fits = taken.0 in grind arith) in
-        omega (arith, slots, held, total_push hand_weight c.rest (record c.ticket { hand = None }), taken.1))
+        let held : hand_weight c.ticket ≡ 1 = (let fits = taken.passes in grind arith) in
+        omega (arith, slots, held, total_push hand_weight c.rest (record c.ticket { hand = None }), taken_weighs taken))
 
     accepts : (p : ℕ) (reply : Accepting) → slot.is_settled reply ≡ true → p < m.server.limits.workers
         → may_accept m.server p (m.fronts p) ≡ true → Kept (Lighter (Accept p reply)) (answered m p reply)

@@ -1,13 +1,12 @@
 -- What a thread does leaves a sound state, which its own steps make lighter: each act of its program, and each call.
-use Rattle.std.{proofs.{Common.{Bool, List, None, Option, Some, [], ap, arith, drop, false, if◌then◌else◌, inl, inr, length, refl, slice_get, slice_set, subst, suc, sym, true, zero, ℕ, ◌+◌, ◌-◌, ◌∙◌, ◌∷◌, ◌≡◌, ◌≢◌, ◌≤◌, ◌<◌, ◌⊎◌, eq-eqb, leb-false, length-append, nat_le}, lemmas.{Grind.common_steps, List.length-set, Bool.{cases_eq, Decides.nat_tests}}}, specs.{Prelude.{IsSome}}}
-use Rattle.claims.specs.Words.{WordState, some_wait, one}
-use Rattle.kernel_model.specs.{Ends.opened, Kernel.{KernelState, Registered, end_at, lowest_free}, declared.{both.Descriptors.Descriptors, reply.Reply.Reply}}
-use Rattle.relay_core.specs.{Order.next_call, Pairs.{PairState}, Idle.{is_overdue, expired, timed_out}}
-use Rattle.token.specs.{Names.{EndName, last_generation}, declared.{side.Side.{Side, TheVariants.{Client, Target}}}}
-use Rattle.world.{proofs.Headline.Ends.Pairs.Holders.{Events.Lists.{Kept, at_one, kept_at, kept_bind, kept_map, kept_none, kept_some, kept_when, opened_here, opened_other, total-set}, Turns}, specs.{Calls.{called, descriptor}, Headline.{end_of}, Slots.{SlotState, WorkerState}, States.State, Steps.{connection_at, is_worn, token_of}, declared.{connection.Connection.Connection, limits.Limits.Limits}}}
-use Rattle.interleaving.specs.{Likeness.{Adopted, Emptied, Entered, Goes, HasClosed, HasOut, HasRetired, Holds, IsHalfOpen, IsHolder, IsSettled, Leaves, Like, Opens, Placed, Posted, Registered as IsRegistered, Rests, Stage, Stays, ThreadLike, Tries, Finds, machine_of, opened_slot}, Threads.{Act, Call, again, ended, open_slot, plan, quiet, turn, System, Thread, acts, begun, calls, goes_on, heard, planned, posted, registering, released, taken_out, taking, with_thread}, Rest.{calls_left, calls_to_come, is_answered, kernel_weight, pair_weight, poller_weight, post_weight, program_weight, slot_weight, spent_weight, thread_weight, ticket_weight, weight}}
-use Rattle.kernel_model.specs.Kernel as kernel
-use Rattle.interleaving.proofs.{Runs.{count_free, Programs.{PairCall, by_plan, chosen}}, Rest.Weights.{four_left, some_left, rest_most, rest_weight, calls_answered, both_opened, both_closed, fresh_weighs}}
+pub mod Weights
+pub use Rattle.claims.specs.Words.{WordState, some_wait}
+pub use Rattle.interleaving.{proofs.Runs.{count_free, Programs.{PairCall, by_plan, chosen}}, specs.{Likeness.{Adopted, Emptied, Entered, Finds, Goes, HasClosed, HasOut, HasRetired, Holds, IsHalfOpen, IsHolder, IsSettled, Leaves, Like, Opens, Placed, Posted, Registered as IsRegistered, Rests, Stage, Stays, ThreadLike, Tries, machine_of, opened_slot}, Rest.{calls_to_come, poller_weight, program_weight, slot_weight, thread_weight, ticket_weight, weight}, Threads.{Act, Call, System, Thread, acts, again, begun, calls, ended, goes_on, heard, open_slot, plan, planned, posted, quiet, registering, released, taken_out, taking, turn, with_thread}}}
+pub use Rattle.relay_core.specs.Idle.{expired, is_overdue, timed_out}
+pub use Rattle.std.{proofs.{Common.{ap, drop, eq-eqb, inl, inr, leb-false, nat_le, subst, sym, ◌<◌, ◌∙◌, ◌≢◌, ◌⊎◌}, lemmas.{Bool.cases_eq, List.length-set}}, specs.Prelude.IsSome}
+pub use Rattle.token.specs.{Names.last_generation, declared.side.Side.{Side, TheVariants.{Client, Target}}}
+pub use Rattle.world.{proofs.Headline.Ends.Pairs.Holders.{Turns, Events.Lists.{at_one, kept_none, kept_some, opened_here, opened_other}}, specs.{Headline.end_of, Slots.{SlotState, WorkerState}, States.State, Steps.{connection_at, is_worn, token_of}, declared.connection.Connection.Connection}}
+pub use Weights.*
 
 -- Which programs there are
 

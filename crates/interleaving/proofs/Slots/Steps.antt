@@ -1,10 +1,12 @@
 -- What a step of a server is at each slot, and what stays true by it.
-use Rattle.std.{proofs.{Common.{Bool, List, None, Option, Some, [], ap, append-nil, arith, drop, eq-eqb, eqb-true, false, if◌then◌else◌, inl, inr, length, length-append, map, nat_lt, ne_eqb, not, option_map, refl, slice_get, sym, true, ℕ, ◌&&◌, ◌++◌, ◌+◌, ◌<◌, ◌==◌, ◌||◌, ◌∙◌, ◌∷◌, ◌≡◌, ◌≢◌, ◌≤◌, ◌⊎◌}, Math.Seq.drop-append_seam, lemmas.{Bool.{Decides.nat_tests, and_parts, cases_eq}, List.nil_from_length, Option.same_Some}}, specs.{Cmp.second_so, List.list_any}}
-use Rattle.interleaving.{proofs.Slots.Leaves.{Delivers, Leaves, common, leaves_begin, leaves_delivery, leaves_opening, nobody, only}, specs.{Slots.{Begin, Deed, Deliver, Front, Listener, Many, Of, Open, Report, Sees, Server, Step, Taken, Ticket, Waker, are_queued, besides, deed, delivering, first_of, in_hand, is_listener, makes, names_at, one_slot, opening, rank, rank_at, rests, set, slot_of, steps_at, suits, tickets_at, written}, Threads.{System, rests_at}}}
-use Rattle.world.{proofs.Headline.Ends.Pairs.Holders.Events.Lists.{Kept, kept_at, kept_map, kept_none, kept_when}, specs.{Calls.when, declared.limits.Limits.Limits}}
-use Rattle.token.specs.declared.name.Name.{Name}
-use Rattle.kernel_model.specs.Names.{are_among, are_distinct, has}
-use Rattle.interleaving.specs.Threads as alone
+pub mod Deeds
+pub use Rattle.interleaving.specs.{Slots.{Begin, Deed, Deliver, Front, Listener, Many, Of, Open, Report, Sees, Server, Step, Taken, Ticket, Waker, are_queued, besides, deed, delivering, first_of, in_hand, is_listener, makes, names_at, one_slot, rank, rank_at, rests, set, slot_of, steps_at, suits, tickets_at, written}, Threads.rests_at}
+pub use Rattle.kernel_model.specs.Names.{are_among, are_distinct, has}
+pub use Rattle.readiness.proofs.Runs.{mapped}
+pub use Rattle.std.{proofs.{Common.{eq-eqb, eqb-true, inl, inr, length, length-append, map, ne_eqb, option_map, ◌<◌, ◌||◌, ◌≢◌, ◌≤◌, ◌⊎◌}, Math.Seq.drop-append_seam, lemmas.{Bool.{and_parts, cases_eq, Decides.nat_tests}, List.nil_from_length, Option.same_Some}}, specs.{Cmp.second_so, List.list_any}}
+pub use Rattle.world.{proofs.Headline.Ends.Pairs.Holders.Events.Lists.kept_at, specs.Calls.when}
+pub use Deeds.*
+pub use Rattle.interleaving.specs.Threads as alone
 
 -- Functions with one value set
 
@@ -54,47 +56,33 @@ brought_there s t i ts gs other = tickets_append t ts _ ∙ ap (λ (hs : List �
 
 -- The ticket that is taken
 
--- it is the first ticket, which passes the test, or after it
-abbrev pub Found : (Ticket → Bool) → Ticket → List Ticket → Taken → Type 0
-Found test t ts c = ((c ≡ record { ticket = t; rest = ts }) × (test t ≡ true))
-    ⊎ ((d : Taken) × (first_of test ts ≡ Some d) × (c ≡ record { ticket = d.ticket; rest = t ∷ d.rest }))
+-- where it stood; it passes the test
+pub record Stood (test : Ticket → Bool) (ts : List Ticket) (c : Taken) : Type 0 where
+  pub before : List Ticket
+  pub after : List Ticket
+  pub whole : ts ≡ before ++ c.ticket ∷ after
+  pub rest : c.rest ≡ before ++ after
+  pub passes : test c.ticket ≡ true
 
-pub found : (test : Ticket → Bool) (t : Ticket) (ts : List Ticket) (c : Taken) → first_of test (t ∷ ts) ≡ Some c → Found test t ts c
-found test t ts c is = by (test t) refl is
+pub stood : (test : Ticket → Bool) (ts : List Ticket) (c : Taken) → first_of test ts ≡ Some c → Stood test ts c
+stood test [] c is = cc
+stood test (t ∷ ts) c is = by (test t) refl is (λ d there. stood test ts d there)
   where
-    behind : (o : Option Taken) → first_of test ts ≡ o → option_map (λ (d : Taken). record { ticket = d.ticket; rest = t ∷ d.rest }) o ≡ Some c
-        → Found test t ts c
-    behind None there is = cc
-    behind (Some d) there is = inr (d, there, sym (same_Some _ _ is))
-
-    by : (b : Bool) → test t ≡ b → (if b then Some (record { ticket = t; rest = ts }) else option_map (λ (d : Taken). record { ticket = d.ticket; rest = t ∷ d.rest }) (first_of test ts)) ≡ Some c
-        → Found test t ts c
-    by true passes is = inl (sym (same_Some _ _ is), passes)
-    by false passes is = behind (first_of test ts) refl is
-
--- the tickets of a slot, with the one that is taken, if it is of the slot, and without it
-record Split (s : ℕ) (ts : List Ticket) (c : Taken) : Type 0 where
-  pub before : List ℕ
-  pub after : List ℕ
-  pub whole : tickets_at s ts ≡ before ++ (if c.ticket.slot == s then c.ticket.generation ∷ after else after)
-  pub rest : tickets_at s c.rest ≡ before ++ after
-
-split : (s : ℕ) (test : Ticket → Bool) (ts : List Ticket) (c : Taken) → first_of test ts ≡ Some c → Split s ts c
-split s test [] c is = cc
-split s test (t ∷ ts) c is = by (found test t ts c is) (λ d there. split s test ts d there)
-  where
-    by : Found test t ts c → ((d : Taken) → first_of test ts ≡ Some d → Split s ts d) → Split s (t ∷ ts) c
-    by (inl it) lower = rw it.0 (record { before = []; after = tickets_at s ts; whole = refl; rest = refl })
-    by (inr it) lower =
-        let d = lower it.0 it.1 in
-        rw it.2 (record { before = if t.slot == s then t.generation ∷ d.before else d.before; after = d.after; whole = grind (arith, d.whole); rest = grind (arith, d.rest) })
+    by : (b : Bool) → test t ≡ b → (if b then Some (record { ticket = t; rest = ts })
+        else option_map (λ (d : Taken). record { ticket = d.ticket; rest = t ∷ d.rest }) (first_of test ts)) ≡ Some c
+        → ((d : Taken) → first_of test ts ≡ Some d → Stood test ts d) → Stood test (t ∷ ts) c
+    by true passes is lower = rw (sym (same_Some _ _ is)) (record { before = []; after = ts; whole = refl; rest = refl; passes = passes })
+    by false fails is lower = mapped _ _ _ is (λ d there same. let h = lower d there in let more = λ (xs : List Ticket). t ∷ xs in
+        rw same (record { before = t ∷ h.before; after = h.after; whole = ap more h.whole; rest = ap more h.rest; passes = h.passes }))
 
 -- of another slot
-pub taken_there : (test : Ticket → Bool) (ts : List Ticket) (c : Taken) → first_of test ts ≡ Some c → (s : ℕ) → s ≢ c.ticket.slot → tickets_at s c.rest ≡ tickets_at s ts
+pub taken_there : (test : Ticket → Bool) (ts : List Ticket) (c : Taken) → first_of test ts ≡ Some c
+    → (s : ℕ) → s ≢ c.ticket.slot → tickets_at s c.rest ≡ tickets_at s ts
 taken_there test ts c is s other =
-    let parts = split s test ts c is in
-    let whole = rw (ne_eqb c.ticket.slot s (λ e. other (sym e))) at parts.whole in
-    parts.rest ∙ sym whole
+    let it = stood test ts c is in
+    let whole = rw (ne_eqb c.ticket.slot s (λ e. other (sym e)))
+    at (ap (tickets_at s) it.whole ∙ tickets_append s it.before (c.ticket ∷ it.after)) in
+    ap (tickets_at s) it.rest ∙ (tickets_append s it.before it.after ∙ sym whole)
 
 -- of this slot, which has no other
 pub record Alone (s : ℕ) (ts : List Ticket) (c : Taken) : Type 0 where
@@ -103,12 +91,15 @@ pub record Alone (s : ℕ) (ts : List Ticket) (c : Taken) : Type 0 where
 
 pub taken_here : (test : Ticket → Bool) (ts : List Ticket) (c : Taken) → first_of test ts ≡ Some c → (s : ℕ) → c.ticket.slot ≡ s → length (tickets_at s ts) ≤ 1 → Alone s ts c
 taken_here test ts c is s own most =
-    let parts = split s test ts c is in
-    let whole : tickets_at s ts ≡ parts.before ++ c.ticket.generation ∷ parts.after = rw (eq-eqb c.ticket.slot s own) at parts.whole in
+    let it = stood test ts c is in
+    let before = tickets_at s it.before in
+    let after = tickets_at s it.after in
+    let whole : tickets_at s ts ≡ before ++ c.ticket.generation ∷ after =
+    rw (eq-eqb c.ticket.slot s own) at (ap (tickets_at s) it.whole ∙ tickets_append s it.before (c.ticket ∷ it.after)) in
     let count = ap (λ (gs : List ℕ). length gs) whole in
-    let first = nil_from_length parts.before (omega (arith, length-append parts.before (c.ticket.generation ∷ parts.after))) in
-    let last = nil_from_length parts.after (omega (arith, length-append parts.before (c.ticket.generation ∷ parts.after))) in
-    record { whole = whole ∙ rw (first, last) refl; rest = parts.rest ∙ rw (first, last) refl }
+    let first = nil_from_length before (omega (arith, length-append before (c.ticket.generation ∷ after))) in
+    let last = nil_from_length after (omega (arith, length-append before (c.ticket.generation ∷ after))) in
+    record { whole = whole ∙ rw (first, last) refl; rest = ap (tickets_at s) it.rest ∙ (tickets_append s it.before it.after ∙ rw (first, last) refl) }
 
 -- The names of a poll
 

@@ -86,7 +86,7 @@ module _ (w : Wired) (d : Delay) (e : List (Option Registered)) (q : List Name) 
 
     act_apart : (act : Act) (rest : List Act) → t.todo ≡ act ∷ rest → is_apart act ≡ true → after_act here i t act rest ≡ Some next → Acted [] false
     act_apart act rest todo is h =
-        let a = kept_at _ _ h (acts_apart here e q (batch_there w.poll d.early here.batch) i t act rest is) in
+        let a = acts_apart here e q (batch_there w.poll d.early here.batch) i t act rest next is h in
         stays w d e q j (Acts i) next wires (rw (there, todo) a.0, a.1) (old_wires w d e q j next wires (ap (λ (r : Rim). r.ends) a.1) new)
 
     act_opens : {o : Option ℕ} (rest : List Act) (free : ℕ) → t.todo ≡ Register ∷ rest → here.free ≡ free → (1 ≤ here.free → here.ends ≡ None) → registering here i t rest free ≡ Some next
@@ -112,18 +112,10 @@ module _ (w : Wired) (d : Delay) (e : List (Option Registered)) (q : List Name) 
         ≡ Some (seen_as (registered here i t rest more g now) (open_as g opened) q
         (batch_there w.poll d.early here.batch)) =
         rw (there, todo, count, a.0, one, second, first, other) (ap (λ (told : Told KernelState Descriptors). Some (registered there_now i t rest more g told)) (open_is there_now.kernel g empty)) in
-        rw (is, new_wires) (record {
-          there = open_as g opened;
-          queue = q;
-          leads = ap (option_and_then (λ (x : System). Some x)) does;
-          joined = record {
-            generation = Some g;
-            ends = Opened opened opened refl refl refl (λ side. rw (late side) (awake (opened side) (coming here.kernel.queue w.poll (End (token g side))) (fresh w.wires side) (inl refl)));
-            known = record { each = λ m h. named_then g m (named.each m h) };
-            polls = idle_polls w.poll idle;
-            on_way = j.on_way;
-          };
-        })))
+        rw (is, new_wires) (led (open_as g opened) q (ap (option_and_then (λ (x : System). Some x)) does)
+        (Opened opened opened refl refl refl
+        (λ side. rw (late side) (awake (opened side) (coming here.kernel.queue w.poll (End (token g side))) (fresh w.wires side) (inl refl))))
+        (record { each = λ m h. named_then g m (named.each m h) }) (idle_polls w.poll idle) j.on_way)))
 
     act_closes : {o : Option ℕ} (rest : List Act) → t.todo ≡ Close ∷ rest → (c : Connection) → IsOut there_now t c → acts here i t (Close ∷ rest) ≡ Some next
         → Both (rim here) w.wires w.poll d.late e o → AllNamed o here.kernel.queue → Polls here.batch d.early o w.poll → Acted (Client ∷ Target ∷ []) true
@@ -140,31 +132,22 @@ module _ (w : Wired) (d : Delay) (e : List (Option Registered)) (q : List Name) 
         let client = End (token g Client) in
         let target = End (token g Target) in
         let does : step last (Acts i) ≡ Some (shut last i t rest c' g f) = rw (there, todo, out.out) (close_is last i t rest c' g f own refl) in
-        rw (is, old) (record {
-          there = None ∷ None ∷ [];
-          queue = without_name target (without_name client now.queue);
-          leads = rw as_seen (run_on (comes d.late (Client ∷ Target ∷ [])) _ _ _ c.leads
-              ∙ (run_on (polls d.early w.poll) (Acts i ∷ []) _ last now.leads ∙ ap (option_and_then (λ (x : System). Some x)) does));
-          joined = record {
-            generation = None;
-            ends = Away refl refl (inr refl) (λ side. both_none side);
-            known = record {
-              each = λ m h.
-                  let a = has_filter m (λ x. not (same target x)) (without_name client here.kernel.queue) h in
-                  let b = has_filter m (λ x. not (same client x)) here.kernel.queue a.0 in
-                  gone_named g m (named.each m b.0) b.1 a.1;
-            };
-            polls = polls_opened busy;
-            on_way = λ m h.
-                let a = has_filter m (λ x. not (same target x)) (without_name client now.queue) h in
-                let b = has_filter m (λ x. not (same client x)) now.queue a.0 in
-                let less = now.less m b.0 in
-                let in0 = c.back m (grind (arith, less)) b.1 a.1 in
-                let way = j.on_way m in0 in
-                let was : has m here.kernel.queue ≡ true = grind (arith, less, way) in
-                or_left _ _ (still_has m (λ x. not (same target x)) (without_name client here.kernel.queue) (still_has m (λ x. not (same client x)) here.kernel.queue was b.1) a.1);
-          };
+        rw (is, old) (led (None ∷ None ∷ []) (without_name target (without_name client now.queue))
+        (rw as_seen (run_on (comes d.late (Client ∷ Target ∷ [])) _ _ _ c.leads
+        ∙ (run_on (polls d.early w.poll) (Acts i ∷ []) _ last now.leads ∙ ap (option_and_then (λ (x : System). Some x)) does)))
+        (Away refl refl (inr refl) (λ side. both_none side))
+        (record {
+          each = λ m h. (let a = has_less m target (without_name client here.kernel.queue) h in
+              let b = has_less m client here.kernel.queue a.0 in gone_named g m (named.each m b.0) b.1 a.1);
         })
+        (polls_opened busy) (λ m h.
+        let a = has_less m target (without_name client now.queue) h in
+        let b = has_less m client now.queue a.0 in
+        let less = now.less m b.0 in
+        let in0 = c.back m (grind (arith, less)) b.1 a.1 in
+        let way = j.on_way m in0 in
+        let was : has m here.kernel.queue ≡ true = grind (arith, less, way) in
+        or_left _ _ (less_has m target (without_name client here.kernel.queue) (less_has m client here.kernel.queue was b.1) a.1)))
       where
         both_none : (side : Side) → on Target [] (on Client [] d.late) side ≡ []
         both_none Client = refl
@@ -271,11 +254,7 @@ deliver_ends : (st : System) (batch : List Name) (next : System) → delivers st
 deliver_ends st [] next h = cc
 deliver_ends st (Listener ∷ rest) next h = rw (some_is h) refl
 deliver_ends st (Waker ∷ rest) next h = rw (some_is h) refl
-deliver_ends st (End n ∷ rest) next h = rw (some_is h) (by ((n.slot == 0) && (st.entry == n.generation)))
-  where
-    by : (b : Bool) → (if b then posted st n.generation else st).ends ≡ st.ends
-    by true = refl
-    by false = refl
+deliver_ends st (End n ∷ rest) next h = rw (some_is h) (grind arith)
 
 closes_is : (before : System) (i : ℕ) (t : Thread) (todo : List Act) → slice_get before.threads i ≡ Some t → t.todo ≡ todo → closes before i ≡ is_close todo
 closes_is before i t todo there is = ap (λ (o : Option Thread). unwrap_or (option_map (λ (t : Thread). is_close t.todo) o) false) there ∙ ap is_close is
@@ -336,33 +315,16 @@ module _ (w : Wired) (d : Delay) (e : List (Option Registered)) (q : List Name) 
         (λ k other some more. more) oks in
         let same = on_here side (f side) s in
         let made = answer_there (on side (f side) s) c1.queue r (record { value = n.value; told = rw same n.told; fit = n.fit; socket = n.socket; after = rw same n.after }) in
-        record {
-          there = open_as g (on side n.socket s);
-          queue = c1.queue;
-          leads = rw (as_seen, append-nil (map (Network side) (d.late side))) (run_on (map (Network side) (d.late side)) _ _ _ c1.leads ∙ rw (open_twice g side (f side) n.socket s) at made);
-          joined = record {
-            generation = Some g;
-            ends = Opened (on side n.socket f) (on side n.socket s) ends refl refl all;
-            known = named;
-            polls = busy;
-            on_way = came_way w.system.kernel.queue busy (oks side) j.on_way c1;
-          };
-        }
+        led (open_as g (on side n.socket s)) c1.queue (rw (as_seen, append-nil (map (Network side) (d.late side)))
+        (run_on (map (Network side) (d.late side)) _ _ _ c1.leads ∙ rw (open_twice g side (f side) n.socket s) at made))
+        (Opened (on side n.socket f) (on side n.socket s) ends refl refl all) named busy (came_way w.system.kernel.queue busy (oks side) j.on_way c1)
     answered_at r n may =
         let x = answers (oks side) n.socket (its_call a) r may n.after refl in
         let all = changed_end g w.system.kernel.queue w.poll w.system.kernel.queue w.poll side x.ok (λ k other some more. more) oks in
-        record {
-          there = open_as g (on side x.there s);
-          queue = q;
-          leads = rw as_seen (answer_there s q r (record { value = n.value; told = sym (told_same (oks side) a.connection.pair a.asks r may) ∙ n.told; fit = n.fit; socket = x.there; after = x.is }));
-          joined = record {
-            generation = Some g;
-            ends = Opened (on side n.socket f) (on side x.there s) ends refl refl (λ k. rw (on_same side d.late k) at (all k));
-            known = named;
-            polls = busy;
-            on_way = j.on_way;
-          };
-        }
+        let told = sym (told_same (oks side) a.connection.pair a.asks r may) ∙ n.told in
+        led (open_as g (on side x.there s)) q
+        (rw as_seen (answer_there s q r (record { value = n.value; told = told; fit = n.fit; socket = x.there; after = x.is })))
+        (Opened (on side n.socket f) (on side x.there s) ends refl refl (λ k. rw (on_same side d.late k) at (all k))) named busy j.on_way
 
     blocked_at : (v : Wired) → unasked w i a ≡ Some v → Led before (Calls i reply.Blocked ∷ []) v d
     blocked_at v h =
@@ -413,7 +375,7 @@ module _ (w : Wired) (d : Delay) (e : List (Option Registered)) (q : List Name) 
       let g = guarded _ _ _ made in
       rw (g.1, failing_is i r a asking) (calls_by i r a (makes_back w.system i a asking) next h g.0 j.ends j.known j.polls))
   plain_next s next wires h new =
-      let a = kept_at _ _ h (steps_apart w.system e q (batch_there w.poll d.early w.system.batch) s refl) in
+      let a = steps_apart w.system e q (batch_there w.poll d.early w.system.batch) s next refl h in
       stays w d e q j s next wires a (old_wires w d e q j next wires (ap (λ (r : Rim). r.ends) a.1) new)
 
   -- while it polls, the poller rests
@@ -421,12 +383,9 @@ module _ (w : Wired) (d : Delay) (e : List (Option Registered)) (q : List Name) 
   Fit x v = Led before (comes d.late (catching w x) ++ happens w d x) v (delay_after w d x) × ((is_none v.poll || poller_rests v.system) ≡ true)
 
   poller_stays : (i : ℕ) (t u : Thread) (rest : List Act) → slice_get w.system.threads i ≡ Some t → t.todo ≡ Call ∷ rest → (is_none w.poll || poller_rests (with_thread w.system i u)) ≡ true
-  poller_stays i t u rest there todo = elim (or_cases (is_none w.poll) (poller_rests w.system) rested) [
-    | inl idle ↦ or_left _ _ idle
-    | inr rests ↦ or_right (is_none w.poll) _ (elim (cases_eq i 0) [
-      | inl first ↦ (let it = rw first at there in let never : poller_rests w.system ≡ false = rw (it, todo) refl in cc)
-      | inr other ↦ rw (get-set_other w.system.threads i 0 u other) rests
-    ])
+  poller_stays i t u rest there todo = elim (cases_eq i 0) [
+    | inl first ↦ (let it = rw first at there in let busy : poller_rests w.system ≡ false = rw (it, todo) refl in grind arith)
+    | inr other ↦ rw (get-set_other w.system.threads i 0 u other) rested
   ]
 
   told_of_poll : (p : Polling) → w.poll ≡ Some p → (v : Wired) → tells w p p.left ≡ Some v

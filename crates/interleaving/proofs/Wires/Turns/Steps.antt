@@ -1,13 +1,10 @@
 -- A step over wires that rest, and what happens there: what the network, the kernel, the poller and the wires do.
 pub mod Ends
-pub use Rattle.interleaving.specs.{Threads.{Accept, Act, Acts, Adopt, Begin, Call, Calls, Claim, Close, Connect, Deliver, Drop, Give, Open, Play, Poll, Register, Sweep, TakeNotes, TakeOut, Thread, Tick, acts, after_act, begun, delivers, goes_on, poller_rests, posted, rests, taken_out, taking, with_thread}, Wires.{Plain, Step, Wired, batch_there, catching, cleared, closes, delay_after, fresh, happens, is_close, may_name, polls, sides_told, tells, told, wires_after}}
-pub use Rattle.kernel_model.specs.{Names.{are_among}, declared.accepting.Accepting.TheVariants.{Accepted, Again, Blocked, Starved}}
-pub use Rattle.std.{proofs.{Common.{Vec, append-nil, slice_get, suc, unwrap_or, zero, ◌+◌, ◌-◌}, lemmas.{Bool.{eqb-true, not-true}, List.{nil_from_length}}}, specs.Global.{Global}}
-pub use Rattle.world.{proofs.Headline.Ends.Pairs.Holders.Events.Lists.{Kept, has_polled, kept_at, kept_bind, kept_guard, kept_map, kept_none, kept_some, kept_when}, specs.{Steps.{is_worn}, declared.connection.Connection.{Connection}}}
+pub use Rattle.interleaving.specs.{Threads.{Accept, Act, Acts, Begin, Call, Calls, Close, Connect, Deliver, Drop, Open, Poll, Register, Sweep, Thread, Tick, acts, after_act, delivers, poller_rests, posted, rests, with_thread}, Wires.{Plain, Step, Wired, batch_there, catching, cleared, closes, delay_after, fresh, happens, is_close, may_name, polls, sides_told, tells, told, wires_after}}
+pub use Rattle.kernel_model.specs.{Names.are_among, declared.accepting.Accepting.TheVariants.{Accepted, Blocked}}
+pub use Rattle.std.{proofs.{Common.{Vec, append-nil, slice_get, suc, unwrap_or, zero, ◌+◌, ◌-◌}, lemmas.{Bool.{eqb-true, not-true}, List.nil_from_length}}, specs.Global.Global}
+pub use Rattle.world.{proofs.Headline.Ends.Pairs.Holders.Events.Lists.has_polled, specs.declared.connection.Connection.Connection}
 pub use Ends.*
-pub use Rattle.claims.specs.Words as word
-pub use Rattle.kernel_model.specs.declared.watched.Watched.TheVariants as watched
-pub use Rattle.token.specs.declared.name.Name.TheVariants as name
 
 -- These steps lead from here to what the threads over wires have come to
 pub record Led (before : System) (own : List alone.Step) (v : Wired) (d : Delay) : Type 0 where
@@ -15,6 +12,18 @@ pub record Led (before : System) (own : List alone.Step) (v : Wired) (d : Delay)
   pub queue : List Name
   pub leads : run before own ≡ Some (seen_as v.system there queue (batch_there v.poll d.early v.system.batch))
   pub joined : Joined (rim v.system) v.wires v.poll d there queue
+
+-- by all that is kept
+pub led : {before : System} {own : List alone.Step} {v : Wired} {d : Delay} {o : Option ℕ} (there : List (Option Registered))
+    (queue : List Name) → run before own ≡ Some (seen_as v.system there queue (batch_there v.poll d.early v.system.batch))
+    → Both (rim v.system) v.wires v.poll d.late there o → AllNamed o v.system.kernel.queue → Polls v.system.batch d.early o v.poll
+    → ((n : Name) → has n queue ≡ true → (has n v.system.kernel.queue || in_poll d.early v.poll n) ≡ true) → Led before own v d
+led {o = o} there queue leads ends known polls on_way = record {
+  there = there;
+  queue = queue;
+  leads = leads;
+  joined = record { generation = o; ends = ends; known = known; polls = polls; on_way = on_way };
+}
 
 pub not_new : {X : Type 0} (o : Option Descriptors) (x y : X) → (if is_none o && is_some o then x else y) ≡ y
 not_new None x y = refl
@@ -31,43 +40,32 @@ module _ (st : System) (e : List (Option Registered)) (q b : List Name) where
   abbrev pub Apart : (System → Option System) → System → Type 0
   Apart makes next = (makes (seen_as st e q b) ≡ Some (seen_as next e q b)) × (rim next ≡ rim st)
 
-  -- either of two
-  either : (test : Bool) (F G : System → System) → F (seen_as st e q b) ≡ seen_as (F st) e q b → rim (F st) ≡ rim st → G (seen_as st e q b) ≡ seen_as (G st) e q b → rim (G st) ≡ rim st
-      → Apart (λ s. Some (if test then F s else G s)) (if test then F st else G st)
-  either true F G one same other as_well = (ap Some one, same)
-  either false F G one same other as_well = (ap Some other, as_well)
+  -- with other sockets the same is made
+  abbrev carried : System → System × Rim
+  carried n = (seen_as n e q b, rim n)
 
-  module _ (i : ℕ) (t : Thread) where
-    takes_out : (rest : List Act) (o : Option Connection) → Apart (λ s. Some (taken_out s i t rest o)) (taken_out st i t rest o)
-    takes_out rest None = (refl, refl)
-    takes_out rest (Some c) = either (c.pair.generation == t.generation) (λ s. with_thread (record s { place = None }) i (record t { out = Some c; todo = rest }))
-        (λ s. with_thread s i (goes_on t alone.gone)) refl refl refl refl
+  abbrev kept : System → System × Rim
+  kept n = (n, rim st)
 
-    takes : (rest : List Act) (o : Option Connection) → Apart (λ s. Some (taking s i t rest o)) (taking st i t rest o)
-    takes rest None = (refl, refl)
-    takes rest (Some c) = (refl, refl)
+  abbrev Alike : Option System → Option System → Type 0
+  Alike here there = option_map carried here ≡ option_map kept there
 
-    gives : (rest : List Act) (test : Bool) → Apart (λ s. Some (with_thread (if test then s else record s { free = suc s.free }) i (goes_on t rest)))
-        (with_thread (if test then st else record st { free = suc st.free }) i (goes_on t rest))
-    gives rest true = (refl, refl)
-    gives rest false = (refl, refl)
+  alike_at : (here there : Option System) (next : System) → here ≡ Some next → Alike here there → (there ≡ Some (seen_as next e q b)) × (rim next ≡ rim st)
+  alike_at None there next is alike = cc
+  alike_at (Some n) None next is alike = cc
+  alike_at (Some n) (Some m) next is alike =
+      let both = some_is alike in
+      rw (some_is is) (ap (λ (x : System × Rim). Some x.0) both, sym (ap (λ (x : System × Rim). x.1) both))
 
-    pub acts_apart : (act : Act) (rest : List Act) → is_apart act ≡ true → Kept (Apart (λ s. after_act s i t act rest)) (after_act st i t act rest)
-    acts_apart Claim rest is = kept_some (either st.word.held (λ s. with_thread s i alone.resting) (λ s. with_thread (alone.exchanged s word.claim) i (goes_on t rest)) refl refl refl refl)
-    acts_apart TakeOut rest is = kept_some (takes_out rest st.place)
-    acts_apart TakeNotes rest is = kept_some (takes rest t.out)
-    acts_apart Call rest is = kept_none
-    acts_apart Play rest is = kept_none
-    acts_apart Give rest is = kept_some (gives rest (is_worn t.generation))
-    acts_apart Adopt rest is = kept_some (either st.word.free (λ s. with_thread (alone.exchanged s word.adopt) i (goes_on t rest)) (λ s. with_thread s i alone.resting) refl refl refl refl)
-    acts_apart Register rest is = cc
-    acts_apart Close rest is = cc
-    acts_apart act rest is = kept_some (refl, refl)
+  acts_alike : (i : ℕ) (t : Thread) (act : Act) (rest : List Act) → is_apart act ≡ true
+      → Alike (after_act st i t act rest) (after_act (seen_as st e q b) i t act rest)
+  acts_alike i t Register rest is = cc
+  acts_alike i t Close rest is = cc
+  acts_alike i t act rest is = grind arith
 
-  begins_by : (i most : ℕ) (tickets : List ℕ) (t : Thread) → slice_get st.threads i ≡ Some t → (rests t && nat_le most st.limits.budget) ≡ true
-      → Kept (Apart (λ x. option_and_then (λ (t : Thread). when (rests t && nat_le most st.limits.budget) (begun x i most tickets)) (slice_get st.threads i))) (begun st i most tickets)
-  begins_by i most [] t is may = kept_none
-  begins_by i most (g ∷ rest) t is may = kept_some (rw (is, may) refl, refl)
+  pub acts_apart : (i : ℕ) (t : Thread) (act : Act) (rest : List Act) (next : System) → is_apart act ≡ true → after_act st i t act rest ≡ Some next
+      → Apart (λ s. after_act s i t act rest) next
+  acts_apart i t act rest next is h = alike_at _ _ next h (acts_alike i t act rest is)
 
   -- steps that do not concern sockets
   abbrev pub no_socket : alone.Step → Bool
@@ -81,29 +79,21 @@ module _ (st : System) (e : List (Option Registered)) (q b : List Name) where
   no_socket (Calls i r) = false
   no_socket s = true
 
-  pub steps_apart : (s : alone.Step) → no_socket s ≡ true → Kept (Apart (λ x. step x s)) (step st s)
-  steps_apart (Tick n) out = kept_guard _ _ (λ may. (rw may refl, refl))
-  steps_apart (Accept Accepted) out = kept_when _ _
-      (λ may. kept_map (λ (k : KernelState). record (alone.after_accept st Accepted) { kernel = k }) (kernel.accept st.kernel Accepted)
-      (λ k is. let g = guarded (nat_lt 0 st.kernel.backlog) (record st.kernel { backlog = st.kernel.backlog - 1 }) k is in rw g.1 (rw (may, g.0) refl, refl)))
-  steps_apart (Accept Blocked) out = kept_when _ _
-      (λ may. kept_map (λ (k : KernelState). record (alone.after_accept st Blocked) { kernel = k }) (kernel.accept st.kernel Blocked)
-      (λ k is. let g = guarded (st.kernel.backlog == 0) (record st.kernel { armed = true }) k is in rw g.1 (rw (may, g.0) refl, refl)))
-  steps_apart (Accept Again) out = kept_when _ _ (λ may. kept_some (rw may refl, refl))
-  steps_apart (Accept Starved) out = kept_when _ _ (λ may. kept_some (rw may refl, refl))
-  steps_apart Drop out = kept_guard _ _ (λ may. (rw may refl, refl))
-  steps_apart Sweep out = kept_guard _ _ (λ may. (rw may refl, refl))
-  steps_apart Open out = kept_bind (λ (t : Thread). guard (rests t && st.accepted) (with_thread st 0 (goes_on t alone.open_slot))) (slice_get st.threads 0)
-      (λ t is. kept_guard (rests t && st.accepted) (with_thread st 0 (goes_on t alone.open_slot)) (λ may. (rw (is, may) refl, refl)))
-  steps_apart (Begin i most) out = kept_bind (λ (t : Thread). alone.begins st i most t) (slice_get st.threads i)
-      (λ t is. kept_when (rests t && nat_le most st.limits.budget) (begun st i most st.tickets) (λ may. begins_by i most st.tickets t is may))
-  steps_apart s out = cc
+  steps_alike : (s : alone.Step) → no_socket s ≡ true → Alike (step st s) (step (seen_as st e q b) s)
+  steps_alike (Accept Accepted) is = grind arith
+  steps_alike (Accept reply) is = grind arith
+  steps_alike (Begin i most) is = grind arith
+  steps_alike Open is = grind arith
+  steps_alike Drop is = grind arith
+  steps_alike Sweep is = grind arith
+  steps_alike (Tick n) is = grind arith
+  steps_alike s is = cc
+
+  pub steps_apart : (s : alone.Step) (next : System) → no_socket s ≡ true → step st s ≡ Some next → Apart (λ x. step x s) next
+  steps_apart s next is h = alike_at _ _ next h (steps_alike s is)
 
 apart : (g : ℕ) (f : Side → EndState) (side k : Side) → not (is_readable (f side) || is_writable (f side)) ≡ true → is_readable (f k) ≡ true → same (End (token g side)) (End (token g k)) ≡ false
-apart g f Client Client quiet some = let never = rw some at quiet in cc
-apart g f Client Target quiet some = refl
-apart g f Target Client quiet some = refl
-apart g f Target Target quiet some = let never = rw some at quiet in cc
+apart g f side k quiet some = grind arith
 
 module _ {r : Rim} {wires : Side → Wire} {poll : Option Polling} {late : Side → List Change} {e : List (Option Registered)} where
   -- the same ends, with another queue or another poll
@@ -197,12 +187,10 @@ module _ (w : Wired) (d : Delay) (e : List (Option Registered)) (q : List Name) 
 
   pub stays : (s : alone.Step) (next : System) (wires : Side → Wire) → Apart st e q there_batch (λ x. step x s) next → wires ≡ w.wires
       → Led seen (s ∷ []) (record w { system = next; wires = wires }) d
-  stays s next wires a is = record {
-    there = e;
-    queue = q;
-    leads = rw a.0 (ap (λ (b : List Name). Some (seen_as next e q (batch_there w.poll d.early b))) (sym (ap (λ (r : Rim). r.batch) a.1)));
-    joined = rw (a.1, is) j;
-  }
+  stays s next wires a is =
+      let same = sym (ap (λ (r : Rim). r.batch) a.1) in
+      let batch = λ (b : List Name). Some (seen_as next e q (batch_there w.poll d.early b)) in
+      record { there = e; queue = q; leads = rw a.0 (ap batch same); joined = rw (a.1, is) j }
 
   -- a change of the network
   pub nets : {o : Option ℕ} (side : Side) (c : Change) (next : System) (wires : Side → Wire) → step st (Network side c) ≡ Some next
@@ -216,42 +204,34 @@ module _ (w : Wired) (d : Delay) (e : List (Option Registered)) (q : List Name) 
       let same = old_wires next wires (ap (λ (x : System). x.ends) n.3) new in
       rw (n.3, same) (by n.1 n.2 n.0 (waits (w.wires side) c) refl)
     where
+      n : Name
+      n = End (token g side)
+
+      queue : List Name
+      queue = st.kernel.queue
+
+      all_after : {x : EndState} {more : List Change} (t : Told EndState Bool) → EndOk t.value (coming queue w.poll n || t.told) (w.wires side) more x
+          → (k : Side) → EndOk (on side t.value f k) (coming (reported queue n t.told) w.poll (End (token g k))) (on side (w.wires side) w.wires k)
+          (on side more d.late k) (on side x s k)
+      all_after t ok = changed_end g queue w.poll (reported queue n t.told) w.poll side (eased (λ _. coming_told n t.told queue w.poll) ok)
+          (λ k other some. coming_still n (End (token g k)) t.told queue w.poll) oks
+
       by : (t : Told EndState Bool) → effect c (f side) ≡ Some t → is_short c ≡ true → (b : Bool) → waits (w.wires side) c ≡ b
           → Led seen (if b then [] else Network side c ∷ []) (record w { system = record st { kernel = at_end st.kernel g f side t } })
           (record d { late = if b then on side (d.late side ++ c ∷ []) d.late else d.late })
       by t is fit true late =
-          let n = End (token g side) in
-          let ok = eased (λ _. coming_told n t.told st.kernel.queue w.poll) (waited (oks side) c t is fit late) in
-          let all = changed_end g st.kernel.queue w.poll (reported st.kernel.queue n t.told) w.poll side ok (λ k other some. coming_still n (End (token g k)) t.told st.kernel.queue w.poll) oks in
-          record {
-            there = e;
-            queue = q;
-            leads = refl;
-            joined = record {
-              generation = Some g;
-              ends = Opened (on side t.value f) s ends refl there (λ k. rw (on_same side w.wires k, on_same side s k) at (all k));
-              known = known_reported n t.told st.kernel.queue refl known;
-              polls = polls;
-              on_way = λ m had. more_or (has m st.kernel.queue) (has m (reported st.kernel.queue n t.told)) (in_poll d.early w.poll m) (has_reported m n t.told st.kernel.queue) (j.on_way m had);
-            };
-          }
+          let all = all_after t (waited (oks side) c t is fit late) in
+          led e q refl (Opened (on side t.value f) s ends refl there (λ k. rw (on_same side w.wires k, on_same side s k) at (all k)))
+          (known_reported n t.told queue refl known) polls
+          (λ m h. more_or (has m queue) (has m (reported queue n t.told)) (in_poll d.early w.poll m) (has_reported m n t.told queue) (j.on_way m h))
       by t is fit false now =
-          let n = End (token g side) in
           let m = moves (oks side) c t is now in
-          let ok = eased (λ _. coming_told n t.told st.kernel.queue w.poll) m.ok in
-          let all = changed_end g st.kernel.queue w.poll (reported st.kernel.queue n t.told) w.poll side ok (λ k other some. coming_still n (End (token g k)) t.told st.kernel.queue w.poll) oks in
-          record {
-            there = open_as g (on side m.there.value s);
-            queue = reported q n t.told;
-            leads = rw (there, network_there st g s q there_batch side c m.there ends fit m.is, m.told) refl;
-            joined = record {
-              generation = Some g;
-              ends = Opened (on side t.value f) (on side m.there.value s) ends refl refl (λ k. rw (on_same side w.wires k, on_same side d.late k) at (all k));
-              known = known_reported n t.told st.kernel.queue refl known;
-              polls = polls;
-              on_way = way_reported n t.told st.kernel.queue q (in_poll d.early w.poll) j.on_way;
-            };
-          }
+          let all = all_after t m.ok in
+          led (open_as g (on side m.there.value s)) (reported q n t.told)
+          (rw (there, network_there st g s q there_batch side c m.there ends fit m.is, m.told) refl)
+          (Opened (on side t.value f) (on side m.there.value s) ends refl refl
+          (λ k. rw (on_same side w.wires k, on_same side d.late k) at (all k)))
+          (known_reported n t.told queue refl known) polls (way_reported n t.told queue q (in_poll d.early w.poll) j.on_way)
 
   -- a step by which a name is queued here and there
   queues : (s : alone.Step) (n : Name) (t : Bool) → Named j.generation n → (backlog : ℕ) (armed : Bool)
@@ -259,18 +239,10 @@ module _ (w : Wired) (d : Delay) (e : List (Option Registered)) (q : List Name) 
       step seen s ≡ Some (seen_as next e (reported q n t) there_batch) → (wires : Side → Wire) → New next wires → Led seen (s ∷ []) (record w { system = next; wires = wires }) d
   queues s n t named backlog armed does wires new =
       let next = record st { kernel = record st.kernel { queue = reported st.kernel.queue n t; backlog = backlog; armed = armed } } in
-      rw (old_wires next wires refl new) (record {
-        there = e;
-        queue = reported q n t;
-        leads = ap (option_and_then (λ (x : System). Some x)) does;
-        joined = record {
-          generation = j.generation;
-          ends = requeued (reported st.kernel.queue n t) st.batch w.poll (λ g f o ends real k some. coming_still n (End (token g k)) t st.kernel.queue w.poll) j.ends;
-          known = known_reported n t st.kernel.queue named j.known;
-          polls = j.polls;
-          on_way = way_reported n t st.kernel.queue q (in_poll d.early w.poll) j.on_way;
-        };
-      })
+      let queue = st.kernel.queue in
+      rw (old_wires next wires refl new) (led e (reported q n t) (ap (option_and_then (λ (x : System). Some x)) does)
+      (requeued (reported queue n t) st.batch w.poll (λ g f o ends real k some. coming_still n (End (token g k)) t queue w.poll) j.ends)
+      (known_reported n t queue named j.known) j.polls (way_reported n t queue q (in_poll d.early w.poll) j.on_way))
 
   pub connects : (next : System) (wires : Side → Wire) → step st Connect ≡ Some next → New next wires → Led seen (Connect ∷ []) (record w { system = next; wires = wires }) d
   connects next wires h new = mapped _ _ _ h (λ k is after.
@@ -298,24 +270,15 @@ module _ (w : Wired) (d : Delay) (e : List (Option Registered)) (q : List Name) 
       let old = old_wires next wires (ap (λ (x : System). x.ends) g.1) new in
       let first = rw (x.2, is) at (spurious_is seen x.0 x.1 who) in
       let then_ = rw (x.2, is, has_itself n q, quiet_there st.kernel.backlog j.ends who quiet) at (vanish_is (queue_more seen n) x.0 x.1 who) in
-      rw (g.1, old) (record {
-        there = e;
-        queue = without_name n (with_name n q);
-        leads = rw first (ap (option_and_then (λ (x : System). Some x)) then_);
-        joined = record {
-          generation = j.generation;
-          ends = withdrawn st.kernel.backlog j.ends who n is quiet;
-          known = known_filter (λ m. not (same n m)) st.kernel.queue j.known;
-          polls = j.polls;
-          on_way = λ m h.
-              let had = has_filter m (λ x. not (same n x)) (with_name n q) h in
-              elim (has_with_back m n q had.0) [
-                | inl was ↦ more_or (has m st.kernel.queue) (has m (without_name n st.kernel.queue)) (in_poll d.early w.poll m)
-                    (λ r. still_has m (λ x. not (same n x)) st.kernel.queue r had.1) (j.on_way m was)
-                | inr this ↦ (let never = rw (this, same_self n) at had.1 in cc)
-              ];
-        };
-      }))
+      let queue = st.kernel.queue in
+      rw (g.1, old) (led e (without_name n (with_name n q)) (rw first (ap (option_and_then (λ (x : System). Some x)) then_))
+      (withdrawn st.kernel.backlog j.ends who n is quiet) (known_filter (λ m. not (same n m)) queue j.known) j.polls (λ m h.
+      let had = has_less m n (with_name n q) h in
+      elim (has_with_back m n q had.0) [
+        | inl was ↦ more_or (has m queue) (has m (without_name n queue)) (in_poll d.early w.poll m)
+            (λ r. less_has m n queue r had.1) (j.on_way m was)
+        | inr this ↦ (let never = rw (this, same_self n) at had.1 in cc)
+      ])))
 
   -- a wire looks at its word
   looked : {o : Option ℕ} (side : Side) → Both (rim st) w.wires w.poll d.late e o
@@ -326,12 +289,7 @@ module _ (w : Wired) (d : Delay) (e : List (Option Registered)) (q : List Name) 
       Opened f s ends real there (λ k. rw (on_same side f k, on_same side s k, on_same side d.late k) at (all k))
 
   pub looks_at : (side : Side) → Led seen [] (record w { wires = on side (record { reads = (w.wires side).reads || (w.wires side).told; told = false }) w.wires }) d
-  looks_at side = record {
-    there = e;
-    queue = q;
-    leads = refl;
-    joined = record { generation = j.generation; ends = looked side j.ends; known = j.known; polls = j.polls; on_way = j.on_way };
-  }
+  looks_at side = led e q refl (looked side j.ends) j.known j.polls j.on_way
 
 -- What the poller does with its polls. In these `poll` is known
 
@@ -348,15 +306,17 @@ delivers_on st wires None d e q j (n ∷ rest) is next rested h = rw (some_is h)
     joined : Joined (record (rim st) { batch = rest }) wires None d e q
     joined = record { generation = j.generation; ends = requeued st.kernel.queue rest None (λ g f o ends real k some more. more) j.ends; known = j.known; polls = Idle; on_way = j.on_way }
 
+    To : System → Type 0
+    To next = Led (seen_as st e q st.batch) (Deliver ∷ []) (record { system = record next { batch = rest }; wires = wires; poll = None }) d
+
     posts : (m : EndName) → st.batch ≡ End m ∷ rest → (b : Bool) → ((m.slot == 0) && (st.entry == m.generation)) ≡ b
-        → Led (seen_as st e q st.batch) (Deliver ∷ []) (record { system = record (if b then posted st m.generation else st) { batch = rest }; wires = wires; poll = None }) d
+        → To (if b then posted st m.generation else st)
     posts m is true own = record { there = e; queue = q; leads = rw (rested, is, own) refl; joined = joined }
     posts m is false own = record { there = e; queue = q; leads = rw (rested, is, own) refl; joined = joined }
 
-    by : (n : Name) → st.batch ≡ n ∷ rest → Led (seen_as st e q st.batch) (Deliver ∷ []) (record { system = record (alone.delivered st n) { batch = rest }; wires = wires; poll = None }) d
-    by Listener is = record { there = e; queue = q; leads = rw (rested, is) refl; joined = joined }
-    by Waker is = record { there = e; queue = q; leads = rw (rested, is) refl; joined = joined }
+    by : (n : Name) → st.batch ≡ n ∷ rest → To (alone.delivered st n)
     by (End m) is = posts m is ((m.slot == 0) && (st.entry == m.generation)) refl
+    by n is = record { there = e; queue = q; leads = rw (rested, is) refl; joined = joined }
 
 -- epoll_wait(2): there nothing happens yet
 pub polls_on : (st : System) (wires : Side → Wire) (poll : Option Polling) (d : Delay) (e : List (Option Registered)) (q : List Name) → Joined (rim st) wires poll d e q → (names : Vec Name Global)
@@ -372,25 +332,20 @@ polls_on st wires None d e q j names reading idle rested empty may k h =
     let parts = and_parts _ _ g.0 in
     let fine = and_parts _ _ parts.1 in
     let none : st.batch ≡ [] = nil_from_length _ (eqb-true _ _ empty) in
-    rw g.1 (record {
-      there = e;
-      queue = q;
-      leads = refl;
-      joined = record {
-        generation = j.generation;
-        ends = requeued (without_names names.items st.kernel.queue) st.batch (Some (record { names = names; reading = reading; left = names.items }))
-            (λ g f o ends real k some more. taken g f ends real k some more) j.ends;
-        known = known_filter (λ m. not (has m names.items)) st.kernel.queue j.known;
-        polls = Busy none parts.0 fine.1 (λ _. record { each = λ n h. j.known.each n (all_has (λ m. has m st.kernel.queue) n names.items fine.0 h) }) (λ e. cc) (λ n h. h);
-        on_way = λ n h. has_polled n names.items st.kernel.queue (at_rest n (d.early) (j.on_way n h));
-      };
-    })
+    rw g.1 (led e q refl (requeued (without_names names.items st.kernel.queue) st.batch (Some all) (λ g f o ends real. taken g f ends real) j.ends)
+    (known_filter (λ m. not (has m names.items)) st.kernel.queue j.known)
+    (Busy none parts.0 fine.1 (λ _. record { each = λ n h. j.known.each n (all_has (λ m. has m st.kernel.queue) n names.items fine.0 h) })
+    (λ (never : false ≡ true). cc) (λ n h. h))
+    (λ n h. has_polled n names.items st.kernel.queue (at_rest n d.early (j.on_way n h))))
   where
+    all : Polling
+    all = record { names = names; reading = reading; left = names.items }
+
     at_rest : (n : Name) (early : Bool) → (has n st.kernel.queue || in_poll early None n) ≡ true → has n st.kernel.queue ≡ true
     at_rest n early h = grind (arith, not_in early n)
 
     taken : (g : ℕ) (f : Side → EndState) → st.ends ≡ Some two → st.kernel.ends ≡ open_as g f → (k : Side) → is_readable (f k) ≡ true → coming st.kernel.queue None (End (token g k)) ≡ true
-        → coming (without_names names.items st.kernel.queue) (Some (record { names = names; reading = reading; left = names.items })) (End (token g k)) ≡ true
+        → coming (without_names names.items st.kernel.queue) (Some all) (End (token g k)) ≡ true
     taken g f ends real k some more =
         let n = End (token g k) in
         let was : has n st.kernel.queue ≡ true = grind arith in
@@ -404,16 +359,10 @@ polls_on st wires None d e q j names reading idle rested empty may k h =
         ]
 
 none_on : (side : Side) (late : Side → List Change) → ((k : Side) → late k ≡ []) → (k : Side) → on side [] late k ≡ []
-none_on Client late none Client = refl
-none_on Client late none Target = none Target
-none_on Target late none Client = none Client
-none_on Target late none Target = refl
+none_on side late none k = grind (arith, none)
 
 same_token : (g : ℕ) (k side : Side) → (k ≡ side → ⊥) → (m : EndName) → m.side ≡ side → same (End (token g k)) (End m) ≡ false
-same_token g Client Client other m is = absurd (other refl)
-same_token g Client Target other m is = rw is (grind arith)
-same_token g Target Client other m is = rw is (grind arith)
-same_token g Target Target other m is = absurd (other refl)
+same_token g k side other m is = grind arith
 
 -- A wire of the slot hears of a report, or of nothing
 module _ (st : System) (wires : Side → Wire) (p : Polling) (d : Delay) (e : List (Option Registered)) (q : List Name) (j : Joined (rim st) wires (Some p) d e q) where
@@ -440,53 +389,25 @@ module _ (st : System) (wires : Side → Wire) (p : Polling) (d : Delay) (e : Li
 
     hears_nothing : ((m : EndName) → same (End m) n ≡ true → p.reading (End m) ≡ false)
         → Led sees [] (record { system = st; wires = wires; poll = Some after }) d
-    hears_nothing never = record {
-      there = e;
-      queue = q;
-      leads = refl;
-      joined = record {
-        generation = j.generation;
-        ends = requeued st.kernel.queue st.batch (Some after) (λ g f o ends real k some. other_coming (End (token g k)) (never (token g k))) j.ends;
-        known = j.known;
-        polls = within_rest j.polls;
-        on_way = λ m h. rw (same_poll d.early m) (j.on_way m h);
-      };
-    }
+    hears_nothing never = led e q refl
+        (requeued st.kernel.queue st.batch (Some after) (λ g f o ends real k some. other_coming (End (token g k)) (never (token g k))) j.ends)
+        j.known (within_rest j.polls) (λ m h. rw (same_poll d.early m) (j.on_way m h))
 
     -- all that is late at the side comes
     hears : (m : EndName) → n ≡ End m → {o : Option ℕ} → Both (rim st) wires (Some p) d.late e o → AllNamed o st.kernel.queue → Polls st.batch d.early o (Some p)
         → Led sees (comes d.late (m.side ∷ []))
         (record { system = st; wires = on m.side (record (wires m.side) { told = true }) wires; poll = Some after }) (record d { late = on m.side [] d.late })
-    hears m is (Away ends real there late) known polls = rw (late m.side) (record {
-      there = e;
-      queue = q;
-      leads = refl;
-      joined = record {
-        generation = None;
-        ends = Away ends real there (none_on m.side d.late late);
-        known = known;
-        polls = within_rest polls;
-        on_way = λ k h. rw (same_poll d.early k) (j.on_way k h);
-      };
-    })
+    hears m is (Away ends real there late) known polls = rw (late m.side) (led e q refl (Away ends real there (none_on m.side d.late late))
+        known (within_rest polls) (λ k h. rw (same_poll d.early k) (j.on_way k h)))
     hears m is (Opened {g} f s ends real there oks) known polls =
         let side = m.side in
         let c = comes_at st g s q (batch_there (Some p) d.early st.batch) side (f side) (d.late side) ends (oks side).due in
         let wire : Wire = record (wires side) { told = true } in
         let all = changed_end g st.kernel.queue (Some p) st.kernel.queue (Some after) side (awake (f side) _ wire (inr refl))
         (λ k other some. other_coming (End (token g k)) (λ own. (let never = rw is at own in cc (same_token g k side other m refl)))) oks in
-        record {
-          there = open_as g (on side (f side) s);
-          queue = c.queue;
-          leads = rw (there, append-nil (map (Network side) (d.late side))) c.leads;
-          joined = record {
-            generation = Some g;
-            ends = Opened f (on side (f side) s) ends real refl (λ k. rw (on_same side f k) at (all k));
-            known = known;
-            polls = within_rest polls;
-            on_way = λ k h. rw (same_poll d.early k) (came_way st.kernel.queue polls (oks side) j.on_way c k h);
-          };
-        }
+        led (open_as g (on side (f side) s)) c.queue (rw (there, append-nil (map (Network side) (d.late side))) c.leads)
+        (Opened f (on side (f side) s) ends real refl (λ k. rw (on_same side f k) at (all k))) known (within_rest polls)
+        (λ k h. rw (same_poll d.early k) (came_way st.kernel.queue polls (oks side) j.on_way c k h))
 
   -- the first report that is left is passed on
   pub tells_on : (left : List Name) → p.left ≡ left → (v : Wired) → tells (record { system = st; wires = wires; poll = Some p }) p left ≡ Some v
@@ -508,15 +429,5 @@ module _ (st : System) (wires : Side → Wire) (p : Polling) (d : Delay) (e : Li
   handed_on rested none =
       let x = shape_there j.ends in
       let now = polled_now st e q x.0 x.1 d.early (Some p) rested (rw x.2 j.polls) in
-      record {
-        there = e;
-        queue = now.queue;
-        leads = now.leads;
-        joined = record {
-          generation = j.generation;
-          ends = requeued st.kernel.queue p.names.items None (λ g f o ends real k some more. (let was = rw none at more in was)) j.ends;
-          known = j.known;
-          polls = Idle;
-          on_way = λ n h. (let it = now.less n h in let was = j.on_way n in grind (arith, was, not_in d.early n));
-        };
-      }
+      led e now.queue now.leads (requeued st.kernel.queue p.names.items None (λ g f o ends real k some more. (let was = rw none at more in was)) j.ends)
+      j.known Idle (λ n h. (let it = now.less n h in let was = j.on_way n in grind (arith, was, not_in d.early n)))

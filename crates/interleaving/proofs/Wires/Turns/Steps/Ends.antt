@@ -1,11 +1,11 @@
 -- The two ends of the slot's connection over wires that rest, and the same ends where what is late has not come: what the
 -- kernel does at one of them, and what is kept of both.
-pub use Rattle.interleaving.{proofs.{Rest.Weights.{same_is, same_self}, Runs.{run_on}}, specs.{Threads.{Network, Spurious, System, Vanish, over_kernel, run, step}, Wires.{Delay, Polling, Wire, comes, end_here, in_poll, is_input, on, report_of, seen_as, waits}}}
-pub use Rattle.kernel_model.specs.{Ends.{EndState, arrival, failure, finish, is_readable, is_writable, new_room, opened}, Kernel.{KernelState, Registered, changed, end_at, open_both, reported}, Names.{are_distinct, has, same, with_name, without_name, without_names}, Outcome.{Told, guard}, declared.{both.{Descriptors.{Descriptors}}, reply.Reply.{Reply}}}
+pub use Rattle.interleaving.{proofs.{Rest.Acts.Weights.{same_is, same_self}, Runs.run_on}, specs.{Threads.{Network, Spurious, System, Vanish, over_kernel, run, step}, Wires.{Delay, Polling, Wire, comes, end_here, in_poll, is_input, on, report_of, seen_as, waits}}}
+pub use Rattle.kernel_model.specs.{Ends.{EndState, arrival, failure, finish, is_readable, is_writable, new_room, opened}, Kernel.{KernelState, Registered, changed, end_at, open_both, reported}, Names.{are_distinct, has, same, with_name, without_name, without_names}, Outcome.{Told, guard}, declared.{both.Descriptors.Descriptors, reply.Reply.Reply}}
 pub use Rattle.readiness.{proofs.Runs.{Heard, both_down, guarded, heard, mapped, some_is}, specs.Machine.{Call, WillBeTold, after_call, may_call, reads_after}}
-pub use Rattle.std.{proofs.{Common.{append-nil, Bool, Contains, List, None, Option, Some, [], ap, arith, false, if◌then◌else◌, inl, inr, length, map, nat_le, nat_lt, not, option_and_then, option_map, refl, sym, take, true, ℕ, ◌&&◌, ◌++◌, ◌==◌, ◌||◌, ◌∙◌, ◌∷◌, ◌≡◌, ◌≢◌, ◌⊎◌}, lemmas.{Bool.{and_parts, cases_eq, not-true, or_cases, or_left, or_parts, or_right}, Option.{option_and_then_some}}}, specs.{Cmp.{first_so, second_so}, List.{filter, list_all}, Option.{is_none, is_some}}}
-pub use Rattle.token.specs.{Names.{EndName}, declared.{name.Name.{Name, TheVariants.{End, Listener, Waker}}, side.Side.{Side, TheVariants.{Client, Target}}}}
-pub use Rattle.world.{proofs.Headline.Ends.Pairs.Holders.Events.Lists.{has_reported, has_with, has_without, reported_has}, specs.{Calls.{descriptor, when}, Steps.{change_at}, declared.event.{Change.{Change, TheVariants.{Arrive, Fin, Reset, Room}}, Reported.{Reported}}}}
+pub use Rattle.std.{proofs.{Common.{Bool, Contains, List, None, Option, Some, [], ap, append-nil, arith, false, if◌then◌else◌, inl, inr, length, map, nat_le, not, option_and_then, option_map, refl, sym, true, unwrap_or, ℕ, ◌&&◌, ◌++◌, ◌==◌, ◌||◌, ◌∙◌, ◌∷◌, ◌≡◌, ◌≢◌, ◌⊎◌}, lemmas.{Bool.{and_parts, cases_eq, not-true, or_cases, or_left, or_parts, or_right}, Option.option_and_then_some}}, specs.{Cmp.{first_so, second_so}, List.{filter, list_all}, Option.{is_none, is_some}}}
+pub use Rattle.token.specs.{Names.EndName, declared.{name.Name.{Name, TheVariants.{End, Listener, Waker}}, side.Side.{Side, TheVariants.{Client, Target}}}}
+pub use Rattle.world.{proofs.Headline.Ends.Pairs.Holders.Events.Lists.{has_reported, has_with, has_without, reported_has}, specs.{Calls.{descriptor, when}, Steps.change_at, declared.event.{Change.{Change, TheVariants.{Arrive, Fin, Reset, Room}}, Reported.Reported}}}
 pub use Rattle.interleaving.specs.Threads as alone
 pub use Rattle.kernel_model.specs.Kernel as kernel
 pub use Rattle.readiness.specs.Machine as machine
@@ -18,28 +18,27 @@ pub has_filter : (n : Name) (p : Name → Bool) (xs : List Name) → has n (filt
 has_filter n p [] h = cc
 has_filter n p (x ∷ xs) h = let rest = has_filter n p xs in let is = same_is n x in grind arith
 
-pub still_has : (n : Name) (p : Name → Bool) (xs : List Name) → has n xs ≡ true → p n ≡ true → has n (filter p xs) ≡ true
+still_has : (n : Name) (p : Name → Bool) (xs : List Name) → has n xs ≡ true → p n ≡ true → has n (filter p xs) ≡ true
 still_has n p [] h passes = cc
 still_has n p (x ∷ xs) h passes = let rest = still_has n p xs in let is = same_is n x in grind arith
 
+-- without the name m
+pub has_less : (n m : Name) (xs : List Name) → has n (without_name m xs) ≡ true → (has n xs ≡ true) × (not (same m n) ≡ true)
+has_less n m = has_filter n (λ x. not (same m x))
+
+pub less_has : (n m : Name) (xs : List Name) → has n xs ≡ true → not (same m n) ≡ true → has n (without_name m xs) ≡ true
+less_has n m = still_has n (λ x. not (same m x))
+
 has_push : (n m : Name) (xs : List Name) → has n (xs ++ m ∷ []) ≡ true → (has n xs ≡ true) ⊎ (n ≡ m)
 has_push n m [] h = let is = same_is n m in inr (grind arith)
-has_push n m (x ∷ xs) h = elim (or_cases (same n x) (has n (xs ++ m ∷ [])) h) [
-  | inl is ↦ inl (or_left (same n x) (has n xs) is)
-  | inr later ↦ elim (has_push n m xs later) [ inl was ↦ inl (or_right (same n x) (has n xs) was) | inr is ↦ inr is ]
-]
+has_push n m (x ∷ xs) h = let rest = has_push n m xs in grind arith
 
 -- a name that is queued was so before, or is the one that is queued then
 pub has_with_back : (n m : Name) (xs : List Name) → has n (with_name m xs) ≡ true → (has n xs ≡ true) ⊎ (n ≡ m)
-has_with_back n m xs h = by (has m xs) h
-  where
-    by : (b : Bool) → has n (if b then xs else xs ++ m ∷ []) ≡ true → (has n xs ≡ true) ⊎ (n ≡ m)
-    by true h = inl h
-    by false h = has_push n m xs h
+has_with_back n m xs h = let push = has_push n m xs in grind arith
 
 pub has_reported_back : (n m : Name) (b : Bool) (xs : List Name) → has n (reported xs m b) ≡ true → (has n xs ≡ true) ⊎ ((n ≡ m) × (b ≡ true))
-has_reported_back n m false xs h = inl h
-has_reported_back n m true xs h = elim (has_with_back n m xs h) [ inl was ↦ inl was | inr is ↦ inr (is, refl) ]
+has_reported_back n m b xs h = let back = has_with_back n m xs in grind arith
 
 -- what is so of all names of a list
 pub all_has : (p : Name → Bool) (n : Name) (xs : List Name) → list_all p xs ≡ true → has n xs ≡ true → p n ≡ true
@@ -62,14 +61,10 @@ end_as g f Client = refl
 end_as g f Target = refl
 
 pub on_here : {X : Type 0} (side : Side) (x : X) (f : Side → X) → on side x f side ≡ x
-on_here Client x f = refl
-on_here Target x f = refl
+on_here side x f = grind arith
 
 pub on_same : {X : Type 0} (side : Side) (f : Side → X) (j : Side) → on side (f side) f j ≡ f j
-on_same Client f Client = refl
-on_same Client f Target = refl
-on_same Target f Client = refl
-on_same Target f Target = refl
+on_same side f j = grind arith
 
 pub open_twice : (g : ℕ) (side : Side) (x y : EndState) (f : Side → EndState) → open_as g (on side y (on side x f)) ≡ open_as g (on side y f)
 open_twice g Client x y f = refl
@@ -130,17 +125,14 @@ pub network_there : (st : System) (g : ℕ) (s : Side → EndState) (q b : List 
 network_there st g s q b side c t ends fit is =
     rw (ends, change_at_end (record st.kernel { ends = open_as g s; queue = q }) g s side c refl, fit, is) refl
 
--- more is queued, and only this end's name
-pub record MoreOf (n : Name) (q more : List Name) : Type 0 where
-  pub back : (m : Name) → has m more ≡ true → (has m q ≡ true) ⊎ (m ≡ n)
-
 abbrev pub may_come : Change → Bool
 may_come c = is_input c && is_short c
 
+-- it leads to the socket f; more is queued, and only this end's name
 pub record Came (st : System) (g : ℕ) (s : Side → EndState) (q b : List Name) (side : Side) (late : List Change) (f : EndState) : Type 0 where
   pub queue : List Name
   pub leads : run (seen_as st (open_as g s) q b) (map (Network side) late) ≡ Some (seen_as st (open_as g (on side f s)) queue b)
-  pub more : MoreOf (End (token g side)) q queue
+  pub back : (m : Name) → has m queue ≡ true → (has m q ≡ true) ⊎ (m ≡ End (token g side))
   pub none : late ≡ [] → queue ≡ q
 
 -- What is late leads from one socket to another
@@ -151,7 +143,7 @@ pub data Settles : EndState → List Change → EndState → Type 0 where
 come : (st : System) (g : ℕ) (s : Side → EndState) (q b : List Name) (side : Side) (x f : EndState) (late : List Change) → st.ends ≡ Some two → Settles x late f
     → Came st g (on side x s) q b side late f
 come st g s q b side x f [] ends Settled =
-    record { queue = q; leads = rw (open_twice g side x x s) refl; more = record { back = λ m h. inl h }; none = λ e. refl }
+    record { queue = q; leads = rw (open_twice g side x x s) refl; back = λ m h. inl h; none = λ e. refl }
 come st g s q b side x f (c ∷ late) ends (After t may is rest) =
     let effect_is : effect c (on side x s side) ≡ Some t = rw (on_here side x s) is in
     let one = network_there st g (on side x s) q b side c t ends (and_parts _ _ may).1 effect_is in
@@ -159,12 +151,10 @@ come st g s q b side x f (c ∷ late) ends (After t may is rest) =
     record {
       queue = r.queue;
       leads = rw (one, open_twice g side x t.value s) (r.leads ∙ rw (open_twice g side t.value f s, open_twice g side x f s) refl);
-      more = record {
-        back = λ m h. elim (r.more.back m h) [
-          | inl was ↦ elim (has_reported_back m (End (token g side)) t.told q was) [ inl old ↦ inl old | inr new ↦ inr new.0 ]
-          | inr is ↦ inr is
-        ];
-      };
+      back = λ m h. elim (r.back m h) [
+        | inl was ↦ elim (has_reported_back m (End (token g side)) t.told q was) [ inl old ↦ inl old | inr new ↦ inr new.0 ]
+        | inr is ↦ inr is
+      ];
       none = λ e. cc;
     }
 
@@ -172,7 +162,7 @@ pub comes_at : (st : System) (g : ℕ) (s : Side → EndState) (q b : List Name)
     → Came st g s q b side late f
 comes_at st g s q b side f late ends due =
     let r = come st g s q b side (s side) f late ends due in
-    record { queue = r.queue; leads = rw (open_same g side s, open_twice g side (s side) f s) at r.leads; more = r.more; none = r.none }
+    record { queue = r.queue; leads = rw (open_same g side s, open_twice g side (s side) f s) at r.leads; back = r.back; none = r.none }
 
 -- An end with its wire
 
@@ -194,108 +184,50 @@ same_socket : {e f : EndState} {late : List Change} → Settles e late f → lat
 same_socket Settled none = refl
 same_socket (After t may is rest) none = cc
 
--- What is late concerns reading: the fields of the other direction are the same before and after, if no error is late
-record IsBeside (f e : EndState) : Type 0 where
-  room : e.room ≡ f.room
-  err : f.err ≡ false → e.err ≡ false
-  write_armed : f.err ≡ false → e.write_armed ≡ f.write_armed
+-- What happens to the other direction: room comes, or a call other than a read has an answer that is no failure. It comes
+-- to the same before a change that concerns reading as after it, and leaves what can be read
 
-beside_one : (c : Change) (e : EndState) (t : Told EndState Bool) → may_come c ≡ true → effect c e ≡ Some t → IsBeside t.value e
-beside_one (Arrive bytes) e t may is = rw (guarded _ _ _ is).1 (search)
-beside_one Fin e t may is = rw (guarded _ _ _ is).1 (search)
-beside_one Reset e t may is = rw (guarded _ _ _ is).1 (record { room = refl; err = λ h. cc; write_armed = λ h. cc })
-beside_one Room e t may is = cc
+abbrev goes : Change → EndState → Option EndState
+goes c e = option_map (λ (t : Told EndState Bool). t.value) (effect c e)
 
-is_beside : {e f : EndState} {late : List Change} → Settles e late f → IsBeside f e
-is_beside Settled = search
-is_beside (After {e = e} {c = c} t may is rest) =
-    let a = beside_one c e t may is in
-    let b = is_beside rest in
-    record { room = a.room ∙ b.room; err = λ h. a.err (b.err h); write_armed = λ h. a.write_armed (b.err h) ∙ b.write_armed h }
+abbrev Crosses : (EndState → Option (Told EndState Bool)) → Type 0
+Crosses does = (c : Change) (e t : EndState) (u : Told EndState Bool) → is_input c ≡ true → goes c e ≡ Some t → does t ≡ Some u
+    → let v = unwrap_or (does e) u in (does e ≡ Some v) × (v.told ≡ u.told) × (goes c v.value ≡ Some u.value)
 
--- What happens to the other direction: room comes, a write takes bytes or would block, or sending is shut down
-record Aside : Type 0 where
-  room : Bool → Bool
-  armed : Bool → Bool
-  taken : List ℕ → List ℕ
-  shut : Bool → Bool
-
-abbrev aside : Aside → EndState → EndState
-aside a e = record e { room = a.room e.room; write_armed = a.armed e.write_armed; taken = a.taken e.taken; shut = a.shut e.shut }
-
--- an error leaves nobody waiting for room
-abbrev MayBe : Aside → EndState → Type 0
-MayBe a f = (a.armed false ≡ false) ⊎ (f.err ≡ false)
-
-one_aside : (a : Aside) (c : Change) (e : EndState) (t : Told EndState Bool) → MayBe a t.value → may_come c ≡ true → effect c e ≡ Some t
-    → (told : Bool) × (effect c (aside a e) ≡ Some (record { value = aside a t.value; told = told }))
-one_aside a (Arrive bytes) e t may in_ is = let g = guarded _ _ _ is in (e.read_armed, rw (g.0, g.1) refl)
-one_aside a Fin e t may in_ is = let g = guarded _ _ _ is in (e.read_armed, rw (g.0, g.1) refl)
-one_aside a Reset e t (inl none) in_ is = let g = guarded _ _ _ is in (e.read_armed || a.armed e.write_armed, rw (g.0, g.1, none) refl)
-one_aside a Reset e t (inr sound) in_ is = let no = rw (guarded _ _ _ is).1 at sound in cc
-one_aside a Room e t may in_ is = cc
-
-settle_aside : {e f : EndState} {late : List Change} (a : Aside) → MayBe a f → Settles e late f → Settles (aside a e) late (aside a f)
-settle_aside a may Settled = Settled
-settle_aside a may (After {e = e} {c = c} t in_ is rest) =
-    let before : MayBe a t.value = elim may [ inl none ↦ inl none | inr sound ↦ inr ((is_beside rest).err sound) ] in
-    let one = one_aside a c e t before in_ is in
-    After (record { value = aside a t.value; told = one.0 }) in_ one.1 (settle_aside a may rest)
-
-abbrev nothing : Aside
-nothing = record { room = λ b. b; armed = λ b. b; taken = λ bytes. bytes; shut = λ b. b }
-
-abbrev roomy : Aside
-roomy = record nothing { room = λ _. true; armed = λ _. false }
-
-abbrev sent : List ℕ → Bool → Aside
-sent more room = record nothing { room = λ _. room; taken = λ bytes. bytes ++ more }
-
-abbrev waiting : Aside
-waiting = record nothing { armed = λ _. true }
-
-abbrev closed : Aside
-closed = record nothing { shut = λ _. true }
+record IsAside (does : EndState → Option (Told EndState Bool)) : Type 0 where
+  crosses : Crosses does
+  beside : (e : EndState) (u : Told EndState Bool) → does e ≡ Some u
+      → (is_readable u.value ≡ is_readable e) × (u.value.read_armed ≡ e.read_armed)
 
 abbrev pub is_failed : Reply → Bool
 is_failed (reply.Failed kind) = true
 is_failed r = false
 
--- a call other than a read that does not fail does the same to both
-record Both_do (x e f : EndState) (call : Call) (r : Reply) : Type 0 where
-  a : Aside
-  here : f ≡ aside a e
-  there : after_call x call r ≡ Some (aside a x)
-  may : MayBe a e
+abbrev answered : Call → Reply → EndState → Option (Told EndState Bool)
+answered call r e = option_map (λ (f : EndState). record { value = f; told = false }) (after_call e call r)
 
-allowed : {X : Type 0} (b : Bool) (x : X) → b ≡ true → guard b x ≡ Some x
-allowed b x h = rw h refl
+room_crosses : Crosses new_room
+room_crosses c e t u in_ is does = grind arith
 
-blocks : {x e f : EndState} (call : Call) → IsBeside e x → guard (not (is_writable e)) (aside waiting e) ≡ Some f
-    → (not (is_writable x) ≡ true → after_call x call reply.Blocked ≡ Some (aside waiting x)) → Both_do x e f call reply.Blocked
-blocks {x} {e} call b is there =
-    let g = guarded _ _ _ is in
-    let none = or_parts _ _ (not-true _ g.0) in
-    record { a = waiting; here = g.1; there = there (rw (b.room ∙ none.0, b.err none.1) refl); may = inr none.1 }
+call_crosses : (call : Call) (r : Reply) → may_call false call ≡ true → is_failed r ≡ false → Crosses (answered call r)
+call_crosses call r other sound c e t u in_ is does = grind arith
 
-both_do : {x e f : EndState} (call : Call) (r : Reply) → may_call false call ≡ true → is_failed r ≡ false → IsBeside e x → after_call e call r ≡ Some f → Both_do x e f call r
-both_do (machine.Read most) r other sound b is = cc
-both_do call (reply.Failed kind) other sound b is = cc
-both_do {x} {e} {f} call reply.Interrupted other sound b is = by call other is
-  where
-    by : (call : Call) → may_call false call ≡ true → after_call e call reply.Interrupted ≡ Some f → Both_do x e f call reply.Interrupted
-    by (machine.Read most) other is = cc
-    by (machine.Write offer) other is = record { a = nothing; here = some_is is; there = refl; may = inl refl }
-    by machine.Join other is = record { a = nothing; here = some_is is; there = refl; may = inl refl }
-    by machine.Shut other is = record { a = nothing; here = some_is is; there = refl; may = inl refl }
-both_do (machine.Write offer) (reply.Wrote n full) other sound b is =
-    let g = guarded _ _ _ is in
-    record { a = sent (take n offer) (not full); here = g.1; there = allowed _ _ (rw b.room g.0); may = inl refl }
-both_do (machine.Write offer) reply.Blocked other sound b is = blocks (machine.Write offer) b is (allowed _ _)
-both_do machine.Join reply.Blocked other sound b is = blocks machine.Join b is (allowed _ _)
-both_do machine.Join reply.Joined other sound b is = let g = guarded _ _ _ is in record { a = nothing; here = g.1; there = allowed _ _ (b.room ∙ g.0); may = inl refl }
-both_do machine.Shut reply.Shut other sound b is = record { a = closed; here = some_is is; there = refl; may = inl refl }
-both_do call r other sound b is = cc
+room_beside : (e : EndState) (u : Told EndState Bool) → new_room e ≡ Some u
+    → (is_readable u.value ≡ is_readable e) × (u.value.read_armed ≡ e.read_armed)
+room_beside e u is = grind arith
+
+call_beside : (call : Call) (r : Reply) → may_call false call ≡ true → is_failed r ≡ false → (e : EndState) (u : Told EndState Bool)
+    → answered call r e ≡ Some u → (is_readable u.value ≡ is_readable e) × (u.value.read_armed ≡ e.read_armed)
+call_beside call r other sound e u is = grind arith
+
+-- so it may come before all that is late
+settle_aside : {does : EndState → Option (Told EndState Bool)} {e f : EndState} {late : List Change} {u : Told EndState Bool} → IsAside does
+    → Settles e late f → does f ≡ Some u → (v : Told EndState Bool) × (does e ≡ Some v) × (v.told ≡ u.told) × Settles v.value late u.value
+settle_aside {u = u} aside Settled is = (u, is, refl, Settled)
+settle_aside aside (After {e = e} {c = c} t may made rest) is =
+    let r = settle_aside aside rest is in
+    let x = aside.crosses c e t.value r.0 (and_parts (is_input c) _ may).0 (rw made refl) r.1 in
+    mapped _ _ _ x.2 (λ next comes same. (_, x.0, x.1 ∙ r.2, After next may comes (rw same at r.3)))
 
 -- there is nothing to read, and the system reports what comes next
 pub record Rests (e : EndState) : Type 0 where
@@ -335,11 +267,10 @@ awake e b wire up = record { due = Settled; waits = Prompt refl; rests = λ read
 
 -- nothing is late where the wire reads or has heard, or where there is nothing to read
 pub same_here : {e x : EndState} {b : Bool} {wire : Wire} {late : List Change} → EndOk e b wire late x → (wire.reads ≡ false → wire.told ≡ false → is_readable e ≡ true → ⊥) → (late ≡ []) × (x ≡ e)
-same_here {e} {x} {b} {wire} {late} ok never = by ok.waits
-  where
-    by : Waits e b wire late → (late ≡ []) × (x ≡ e)
-    by (Prompt none) = (none, same_socket ok.due none)
-    by (Behind a) = absurd (never a.reads a.told a.readable)
+same_here ok never = elim ok.waits [
+  | Prompt none ↦ (none, same_socket ok.due none)
+  | Behind a ↦ absurd (never a.reads a.told a.readable)
+]
 
 -- what is late is reported
 pub told_soon : {e x : EndState} {b : Bool} {wire : Wire} {late : List Change} → EndOk e b wire late x → late ≢ [] → b ≡ true
@@ -348,13 +279,11 @@ told_soon ok some = elim ok.waits [ Prompt none ↦ absurd (some none) | Behind 
 -- nothing is missed
 pub missed : {e x : EndState} {b : Bool} {wire : Wire} {late : List Change} → EndOk e b wire late x → wire.reads ≡ false → wire.told ≡ false
     → (is_readable e ≡ false → e.read_armed ≡ true) × (is_readable e ≡ true → b ≡ true)
-missed {e} {x} {b} {wire} {late} ok reads told = by ok.waits
-  where
-    by : Waits e b wire late → (is_readable e ≡ false → e.read_armed ≡ true) × (is_readable e ≡ true → b ≡ true)
-    by (Prompt none) =
-        let rests = rw (same_socket ok.due none) at (ok.rests reads told) in
-        (λ empty. rests.armed, λ some. (let never = rests.empty in cc))
-    by (Behind a) = (λ empty. (let never = a.readable in cc), λ some. a.coming)
+missed ok reads told = elim ok.waits [
+  | Prompt none ↦ (let rests = rw (same_socket ok.due none) at (ok.rests reads told) in
+      (λ empty. rests.armed, λ some. (let never = rests.empty in cc)))
+  | Behind a ↦ (λ empty. (let never = a.readable in cc), λ some. a.coming)
+]
 
 -- after a change that concerns reading there is something to read, and it is reported if the last read would have blocked
 heard_at : (c : Change) (e : EndState) (t : Told EndState Bool) → may_come c ≡ true → effect c e ≡ Some t → Heard e t
@@ -384,27 +313,27 @@ module _ {e x : EndState} {b : Bool} {wire : Wire} {late : List Change} (ok : En
       record { there = t; is = rw same.1 is; told = refl; ok = rw same.0 (awake t.value (b || t.told) wire awoken) }
 
   -- what happens to the other direction alone
-  aside_ok : (a : Aside) (c : Bool) → MayBe a e → (b ≡ true → c ≡ true) → EndOk (aside a e) c wire late (aside a x)
-  aside_ok a c may more = record {
-    due = settle_aside a may ok.due;
-    waits = on_still (λ s. record { reads = s.reads; told = s.told; readable = s.readable; coming = more s.coming }) ok.waits;
-    rests = λ reads told. (let r = ok.rests reads told in record { empty = r.empty; armed = r.armed });
-  }
+  aside_ok : {does : EndState → Option (Told EndState Bool)} → IsAside does → (u : Told EndState Bool) → does e ≡ Some u → (c : Bool)
+      → (b ≡ true → c ≡ true) → (v : Told EndState Bool) × (does x ≡ Some v) × (v.told ≡ u.told) × EndOk u.value c wire late v.value
+  aside_ok aside u is c more =
+      let d = settle_aside aside ok.due is in
+      let here = aside.beside e u is in
+      let there = aside.beside x d.0 d.1 in (
+        d.0,
+        d.1,
+        d.2,
+        record {
+          due = d.3;
+          waits = on_still (λ a. record { reads = a.reads; told = a.told; readable = here.0 ∙ a.readable; coming = more a.coming }) ok.waits;
+          rests = λ reads told. (let r = ok.rests reads told in record { empty = there.0 ∙ r.empty; armed = there.1 ∙ r.armed });
+        },
+      )
 
   pub moves : (c : Change) (t : Told EndState Bool) → effect c e ≡ Some t → waits wire c ≡ false → Moved e x b wire late c t
   moves Room t is up =
-      let full = guarded _ _ _ is in
-      let none = both_down _ _ full.0 in
-      let beside = is_beside ok.due in
-      let armed = beside.write_armed none.1 in
-      let room = beside.room ∙ none.0 in
-      let err = beside.err none.1 in
-      rw full.1 (record {
-        there = record { value = aside roomy x; told = x.write_armed };
-        is = allowed _ _ (rw (room, err) refl);
-        told = armed;
-        ok = aside_ok roomy _ (inl refl) (or_left b e.write_armed);
-      })
+      let room : IsAside new_room = record { crosses = room_crosses; beside = room_beside } in
+      let a = aside_ok room t is (b || t.told) (or_left b t.told) in
+      record { there = a.0; is = a.1; told = a.2; ok = a.3 }
   moves c t is up = comes_now c t is up
 
   -- one that waits is late
@@ -431,15 +360,13 @@ module _ {e x : EndState} {b : Bool} {wire : Wire} {late : List Change} (ok : En
       let same = same_here ok (λ reads told some. cc) in
       record { there = f; is = rw same.1 is; ok = rw same.0 (record { due = Settled; waits = Prompt refl; rests = λ reads told. rests reads }) }
 
-  same_aside : (f : EndState) (a : Aside) (call : Call) (r : Reply) → reads_after wire.reads call r ≡ wire.reads → f ≡ aside a e → MayBe a e
-      → EndOk f b (record wire { reads = reads_after wire.reads call r }) late (aside a x)
-  same_aside f a call r same here may = rw (here, same) (aside_ok a b may (λ h. h))
-
   other_call : (f : EndState) (call : Call) (r : Reply) → may_call false call ≡ true → after_call e call r ≡ Some f → is_failed r ≡ false → reads_after wire.reads call r ≡ wire.reads
       → Answered x b wire late f call r
   other_call f call r other is sound same =
-      let both = both_do call r other sound (is_beside ok.due) is in
-      record { there = aside both.a x; is = both.there; ok = same_aside f both.a call r same both.here both.may }
+      let call_aside : IsAside (answered call r) =
+      record { crosses = call_crosses call r other sound; beside = call_beside call r other sound } in
+      let a = aside_ok call_aside (record { value = f; told = false }) (rw is refl) b (λ h. h) in
+      mapped _ _ _ a.1 (λ there comes value. record { there = there; is = comes; ok = rw same (rw value at a.3) })
 
   pub answers : (f : EndState) (call : Call) (r : Reply) → may_call wire.reads call ≡ true → after_call e call r ≡ Some f → is_failed r ≡ false → Answered x b wire late f call r
   answers f (machine.Read most) reply.Blocked up is sound =
@@ -536,10 +463,7 @@ known_filter p queue all = record { each = λ m h. all.each m (has_filter m p qu
 
 -- what is reported is coming
 pub coming_told : (n : Name) (t : Bool) (queue : List Name) (poll : Option Polling) → (coming queue poll n || t) ≡ true → coming (reported queue n t) poll n ≡ true
-coming_told n t queue poll h = elim (or_cases _ _ h) [
-  | inl was ↦ more_or (has n queue) (has n (reported queue n t)) (soon poll n) (has_reported n n t queue) was
-  | inr told ↦ or_left _ (soon poll n) (reported_has n t queue told)
-]
+coming_told n t queue poll h = grind (arith, has_reported n n t queue, reported_has n t queue)
 
 pub coming_still : (n m : Name) (t : Bool) (queue : List Name) (poll : Option Polling) → coming queue poll m ≡ true → coming (reported queue n t) poll m ≡ true
 coming_still n m t queue poll = more_or (has m queue) (has m (reported queue n t)) (soon poll m) (has_reported m n t queue)
@@ -647,21 +571,14 @@ coming_way {early = false} queue n (Busy {p} none few once named gone within) h 
 ]
 coming_way {early = true} queue n (Busy none few once named gone within) h = let never = gone refl in cc
 
-some_or_none : {X : Type 0} (xs : List X) → (xs ≡ []) ⊎ (xs ≢ [])
-some_or_none [] = inl refl
-some_or_none (x ∷ xs) = inr (λ e. cc)
-
 -- once what is late has come, what is queued there is on its way
 pub came_way : {st : System} {g : ℕ} {s : Side
     → EndState} {q b : List Name} {side : Side} {late : List Change} {f e x : EndState} {wire : Wire} {early : Bool} {poll : Option Polling} {batch : List Name} (queue : List Name)
     → Polls batch early (Some g) poll → EndOk e (coming queue poll (End (token g side))) wire late x → ((m : Name) → has m q ≡ true → (has m queue || in_poll early poll m) ≡ true)
     → (c : Came st g s q b side late f) → (m : Name) → has m c.queue ≡ true → (has m queue || in_poll early poll m) ≡ true
-came_way {g = g} {side = side} {late = late} {e = e} {wire = wire} queue polls ok way c m h = elim (some_or_none late) [
-  | inl none ↦ way m (rw (c.none none) at h)
-  | inr some ↦ elim (c.more.back m h) [
-    | inl was ↦ way m was
-    | inr is ↦ rw is (coming_way queue (End (token g side)) polls (told_soon ok some))
-  ]
+came_way {g = g} {side = side} queue polls ok way c m h = elim ok.waits [
+  | Prompt none ↦ way m (rw (c.none none) at h)
+  | Behind a ↦ elim (c.back m h) [ inl was ↦ way m was | inr is ↦ rw is (coming_way queue (End (token g side)) polls a.coming) ]
 ]
 
 -- all that is late comes
@@ -682,6 +599,6 @@ all_come g {late} st q b f s ends oks =
       queue = c2.queue;
       leads = rw (append-nil (map (Network Target) (late Target))) (run_on (map (Network Client) (late Client)) _ _ _ c1.leads ∙ c2.leads);
       back = λ m h client target.
-          let first : has m c1.queue ≡ true = elim (c2.more.back m h) [ inl was ↦ was | inr is ↦ absurd (not_it _ _ target is) ] in
-          elim (c1.more.back m first) [ inl was ↦ was | inr is ↦ absurd (not_it _ _ client is) ];
+          let first : has m c1.queue ≡ true = elim (c2.back m h) [ inl was ↦ was | inr is ↦ absurd (not_it _ _ target is) ] in
+          elim (c1.back m first) [ inl was ↦ was | inr is ↦ absurd (not_it _ _ client is) ];
     }

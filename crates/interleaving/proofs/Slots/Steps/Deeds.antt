@@ -1,13 +1,12 @@
 -- What a step of `System` leaves as it is, when the accept flag is up and no client is accepted, as in a slot of a server.
-use Rattle.std.{proofs.{Common.{Bool, List, None, Option, Some, [], ap, append-nil, arith, drop, false, if◌then◌else◌, nat_lt, not, option_and_then, refl, slice_get, slice_set, sym, true, zero, suc, ℕ, ◌&&◌, ◌++◌, ◌+◌, ◌==◌, ◌∙◌, ◌∷◌, ◌≡◌}}}
-use Rattle.interleaving.specs.{Threads.{Act, Call, Play, Claim, TakeOut, TakeNotes, Release, Post, Close, Give, Register, Adopt, Accept, Acts, Begin, Calls, Connect, Deliver, Network, Open, Spurious, Step, Sweep, System, Thread, Tick, Vanish, acts, after_act, begun, calls, delivers, goes_on, open_slot, poller_rests, posted, registering, rests, run, step, taken_out, taking, watched_of, with_thread}, Slots.{opening}}
-use Rattle.kernel_model.specs.{Kernel.KernelState, declared.{reply.Reply.Reply, accepting.Accepting.TheVariants.Accepted}}
-use Rattle.token.specs.{declared.{name.Name.Name, side.Side.{Side, TheVariants.{Client, Target}}}}
-use Rattle.claims.specs.Words.{some_wait, wakes}
-use Rattle.world.{proofs.Headline.Ends.Pairs.Holders.Events.Lists.{Kept, get-set_other, get-set_same, kept_bind, kept_guard, kept_map, kept_none, kept_some, kept_through, kept_when}, specs.{Calls.{called, descriptor}, Steps.{change_at, is_worn, token_of}, declared.{connection.Connection.Connection, limits.Limits.Limits, event.{Change.Change, Reported.Reported}}}}
-use Rattle.interleaving.proofs.Runs.Programs.{chosen}
-use Rattle.kernel_model.specs.Kernel as kernel
-use Rattle.token.specs.declared.name.Name.TheVariants as name
+pub use Rattle.claims.specs.Words.{some_wait, wakes}
+pub use Rattle.interleaving.{proofs.Runs.Programs.chosen, specs.{Slots.opening, Threads.{Accept, Act, Acts, Adopt, Begin, Call, Calls, Claim, Close, Connect, Deliver, Give, Network, Open, Play, Post, Register, Release, Spurious, Step, Sweep, System, TakeNotes, TakeOut, Thread, Tick, Vanish, acts, after_act, begun, calls, delivers, goes_on, open_slot, poller_rests, posted, registering, rests, run, step, taken_out, taking, watched_of, with_thread}}}
+pub use Rattle.kernel_model.specs.{Kernel.KernelState, declared.{accepting.Accepting.TheVariants.Accepted, reply.Reply.Reply}}
+pub use Rattle.std.proofs.Common.{Bool, List, None, Option, Some, [], ap, append-nil, arith, drop, false, if◌then◌else◌, nat_lt, not, option_and_then, refl, slice_get, slice_set, suc, sym, true, zero, ℕ, ◌&&◌, ◌++◌, ◌+◌, ◌==◌, ◌∙◌, ◌∷◌, ◌≡◌}
+pub use Rattle.token.specs.declared.{name.Name.Name, side.Side.{Side, TheVariants.{Client, Target}}}
+pub use Rattle.world.{proofs.Headline.Ends.Pairs.Holders.Events.Lists.{Kept, get-set_other, get-set_same, kept_bind, kept_guard, kept_map, kept_none, kept_some, kept_through, kept_when}, specs.{Calls.{called, descriptor}, Steps.{change_at, is_worn, token_of}, declared.{connection.Connection.Connection, event.{Change.Change, Reported.Reported}, limits.Limits.Limits}}}
+pub use Rattle.kernel_model.specs.Kernel as kernel
+pub use Rattle.token.specs.declared.name.Name.TheVariants as name
 
 abbrev pub common : System → Limits × (Bool × Bool)
 common st = (st.limits, (st.flag, st.accepted))

@@ -1,15 +1,15 @@
 -- What a call with its reply, a poll, an opening and a closing make of what pairs and the kernel weigh, and of the calls that are left.
-use Rattle.std.proofs.{Common.{Bool, List, None, Option, Some, [], ◌∷◌, true, false, not, if◌then◌else◌, arith, length, refl, zero, suc, get_or, length-append, max, ℕ, ◌*◌, ◌+◌, ◌-◌, ◌≡◌, ◌≤◌, slice_get, slice_set}, lemmas.{Grind.common_steps, Bool.{and_parts, Decides.nat_tests}, List.Sums.{length-filter, count_by-le-length}}}
-use Rattle.token.specs.{Names.EndName, Sides.opposite, declared.{direction.Direction.{Direction}, name.Name.Name}}
-use Rattle.kernel_model.specs.{Ends.{EndState, opened}, Kernel.{KernelState, Registered, end_at, lowest_free, with_end}, Names.{are_among, are_distinct, has, same, without_names}, Outcome.Told, declared.{both.{Descriptors.Descriptors, Sockets.Sockets}, reply.Reply.Reply}}
-use Rattle.relay_core.{proofs.Pairs.{asked_is_possible}, specs.{Calls.{direction_of, side_of}, Order.{call_for, next_call}, declared.flags.Flags.Flags, Pairs.{PairState, flags_of, fresh, is_live, verdict}, Replies.{after, fits}, declared.call.Call.{Call, TheVariants.{Join, Read, Shut, Write}}}}
-use Rattle.claims.specs.Words.{one}
-use Rattle.world.{proofs.Headline.Ends.Pairs.Holders.Events.{end_after, Lists.{Kept, kept_at, kept_bind, kept_map, kept_over, kept_when, same_end_is, total-set, total_push}}, specs.{Calls.{OpenConnection, descriptor, made, told_of}, Leads.{LeadTable, lead_at}, Support.total, declared.limits.Limits.Limits}}
-unfoldable use Rattle.world.specs.Calls.{called}
-use Rattle.interleaving.specs.Rest.{calls_left, end_weight, flags_up, is_answered, kernel_weight, longest, most, move_weight, moves_left, pair_weight, passes_on, post_weight, socket_weight, spent_weight}
-use Rattle.kernel_model.specs.Kernel as kernel
-use Rattle.token.specs.declared.name.Name.TheVariants as name
-use Rattle.relay_core.specs.Replies as answer
+pub use Rattle.claims.specs.Words.{one}
+pub use Rattle.interleaving.specs.Rest.{calls_left, end_weight, flags_up, is_answered, kernel_weight, longest, most, move_weight, moves_left, pair_weight, passes_on, post_weight, socket_weight, spent_weight}
+pub use Rattle.kernel_model.specs.{Ends.{EndState, opened}, Kernel.{KernelState, Registered, end_at, lowest_free, with_end}, Names.{are_among, are_distinct, has, same, without_names}, Outcome.Told, declared.{both.{Descriptors.Descriptors, Sockets.Sockets}, reply.Reply.Reply}}
+pub use Rattle.relay_core.{proofs.Pairs.asked_is_possible, specs.{Calls.{direction_of, side_of}, Order.{call_for, next_call}, Pairs.{PairState, flags_of, fresh, is_live, verdict}, Replies.{after, fits}, declared.{call.Call.{Call, TheVariants.{Join, Read, Shut, Write}}, flags.Flags.Flags}}}
+pub use Rattle.std.proofs.{Common.{Bool, List, None, Option, Some, [], arith, false, get_or, if◌then◌else◌, length, length-append, max, not, refl, slice_get, slice_set, suc, true, zero, ℕ, ◌*◌, ◌+◌, ◌-◌, ◌∷◌, ◌≡◌, ◌≤◌}, lemmas.{Bool.{and_parts, Decides.nat_tests}, Grind.common_steps, List.Sums.{count_by-le-length, length-filter}}}
+pub use Rattle.token.specs.{Names.EndName, Sides.opposite, declared.{direction.Direction.Direction, name.Name.Name}}
+pub use Rattle.world.{proofs.Headline.Ends.Pairs.Holders.Events.{end_after, Lists.{Kept, kept_at, kept_bind, kept_map, kept_over, kept_when, same_end_is, total-set, total_push}}, specs.{Calls.{OpenConnection, descriptor, made, told_of}, Leads.{LeadTable, lead_at}, Support.total, declared.limits.Limits.Limits}}
+unfoldable pub use Rattle.world.specs.Calls.{called}
+pub use Rattle.kernel_model.specs.Kernel as kernel
+pub use Rattle.token.specs.declared.name.Name.TheVariants as name
+pub use Rattle.relay_core.specs.Replies as answer
 
 -- the flag by which a call is worth a try
 abbrev flag : PairState → Call → Bool
