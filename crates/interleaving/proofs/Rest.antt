@@ -1,9 +1,9 @@
 -- Left alone, the threads come to rest: each step leaves a sound state, which the relay's own steps make lighter.
 pub mod Acts
-use Rattle.interleaving.{proofs.Runs.{run_on, stage_acts, Programs.{rests_like, some_there}}, specs.{Likeness.{EveryInterleavingIsARun, IsARun, NoActInVain, Settled}, Rest.{HasStopped, LeftAloneItEnds, LeftAloneItRests, is_own}, Threads.{Accept, Acts as DoesAct, Begin, Calls, Connect, Deliver, Drop, Network, Open, Poll, Spurious, Step, Sweep, Tick, Vanish, delivers, is_over, poller_rests, resting, rests, run, start, step, watched_of}}}
+use Rattle.interleaving.{proofs.Runs.{run_on, stage_acts, Programs.{rests_like, some_there}}, specs.{Likeness.{EveryInterleavingIsARun, IsARun, NoActInVain, Settled}, Rest.{HasStopped, LeftAloneItEnds, LeftAloneItRests, client_weight, is_own}, Threads.{Accept, Acts as DoesAct, Begin, Calls, Connect, Deliver, Drop, Network, Open, Poll, Spurious, Step, Sweep, Tick, Vanish, delivers, is_over, poller_rests, resting, rests, run, start, step, watched_of}}}
 use Rattle.kernel_model.specs.{Ends.is_nonempty, declared.accepting.Accepting.TheVariants.{Accepted, Again, Blocked, Starved}}
 use Rattle.relay_core.specs.declared.call.Call.{Call as PairCall}
-use Rattle.std.{proofs.{Common.{Vec, le-leb, lt-ltb, ltb-true, nat_lt, option_map, replicate, ◌&&◌, ◌++◌, ◌==◌}, lemmas.{List.length-replicate, Option.{option_and_then_some, slice_get-get_or}}}, specs.{Cmp.{first_so, second_so}, Global.Global, List.{list_all, list_any}, Option.option_flatten}}
+use Rattle.std.{proofs.{Common.{Vec, le-leb, ltb-true, nat_lt, option_map, replicate, ◌&&◌, ◌++◌, ◌==◌}, lemmas.{List.length-replicate, Option.{option_and_then_some, slice_get-get_or}}}, specs.{Cmp.{first_so, second_so}, Global.Global, List.{list_all, list_any}, Option.option_flatten}}
 use Rattle.token.specs.declared.kind.Kind.TheVariants.{Reset}
 use Rattle.world.{proofs.Headline.Ends.Pairs.Holders.{SlotOk, facts, turns_after, worker_closes, worker_holds, Events.{Happens, Ticks, holds_after, Lists.{get-replicate, get-set_other, kept_guard, total_none}}}, specs.{CoreLaws.CoreLaws, Due.{due, due_place, has_ticket, movable}, Headline.ListenerHolds, Slots.{is_by_worker, is_held}, States.{opening, resting as idle_worker}, Steps.change_at, Support.{one as one_if, worker_tickets}, declared.{actors.Holder.{Holder, TheVariants.{By, Free, Nobody}}, event.Event.Event}}}
 use denote.RawPtr.{null_ptr}
@@ -74,32 +74,26 @@ module _ {l : Limits} {st : System} (sound : Sound l st) (stopped : HasStopped s
     rests_now : poller_rests st ≡ true
     rests_now = rw (poller.1, over 0 poller.0 poller.1) refl
 
-    pub no_tickets : 4 ≤ l.budget → (tickets : List ℕ) → st.tickets ≡ tickets → tickets ≡ []
-    no_tickets four [] is = refl
-    no_tickets four (g ∷ rest) is =
-        let none = rw (poller.1, over 0 poller.0 poller.1, sound.limits, le-leb _ _ four, is) at (stopped (Begin 0 4) refl) in cc
+    pub no_tickets : 4 ≤ l.budget → st.tickets ≡ []
+    no_tickets four =
+        let none = stopped (Begin 0 4) refl in
+        let there = poller.1 in
+        let rests = over 0 poller.0 poller.1 in
+        let limits = sound.limits in
+        grind (arith, nat_tests)
 
-    pub no_batch : (batch : List Name) → st.batch ≡ batch → batch ≡ []
-    no_batch [] is = refl
-    no_batch (n ∷ rest) is = let none = rw (rests_now, is) at (stopped Deliver refl) in cc
+    pub no_batch : st.batch ≡ []
+    no_batch = let none = stopped Deliver refl in let rests = rests_now in grind arith
 
     pub no_queue : st.batch ≡ [] → (queue : List Name) → st.kernel.queue ≡ queue → queue ≡ []
     no_queue empty [] is = refl
     no_queue empty (n ∷ rest) is = let none = rw (rests_now, empty, is, same_self n) at (stopped (Poll (a_vec n)) refl) in cc
 
-    pub no_client : (b : Bool) → st.accepted ≡ b → b ≡ false
-    no_client false is = refl
-    no_client true is = let none = rw (rests_now, is) at (stopped Drop refl) in cc
+    pub no_client : st.accepted ≡ false
+    no_client = let none = stopped Drop refl in let rests = rests_now in grind arith
 
-    none_waits : st.accepted ≡ false → 1 ≤ st.free → (b : Bool) → st.flag ≡ b → (st.flag ≡ false → st.kernel.backlog ≡ 0) → (n : ℕ) → st.kernel.backlog ≡ n → n ≡ 0
-    none_waits accepted free false down none n is = sym is ∙ none down
-    none_waits accepted free true up none zero is = refl
-    none_waits accepted free true up none (suc n) is =
-        let made = rw (rests_now, up, accepted, lt-ltb 0 st.free free, is, lt-ltb 0 (suc n) (omega arith)) at (stopped (Accept Accepted) refl) in cc
-
-    pub no_clients : st.accepted ≡ false → (st.flag ≡ false → st.kernel.backlog ≡ 0) → (n : ℕ) → st.free ≡ n → (st.kernel.backlog ≡ 0) ⊎ (st.free ≡ 0)
-    no_clients accepted none zero is = inr is
-    no_clients accepted none (suc n) is = inl (none_waits accepted (omega arith) st.flag refl none st.kernel.backlog refl)
+    pub no_clients : st.accepted ≡ false → (st.flag ≡ false → st.kernel.backlog ≡ 0) → (st.kernel.backlog ≡ 0) ⊎ (st.free ≡ 0)
+    no_clients accepted down = let none = stopped (Accept Accepted) refl in let rests = rests_now in grind (arith, nat_tests)
 
 -- The machine: each worker rests
 
@@ -188,21 +182,16 @@ module _ {l : Limits} {st : System} (s : Sound l st) where
 
   accepts : st.accepted ≡ false → nat_lt 0 st.kernel.backlog ≡ true
       → weight (record st { accepted = true; kernel = record st.kernel { backlog = st.kernel.backlog - 1 } }) + 1 ≤ weight st
-  accepts none some = by _ _ _ _ _ _ st.kernel.backlog _ (rw none refl) (ltb-true _ _ some)
-    where
-      by : (e x c y f r b n : ℕ) → n ≡ 0 → 0 < b → ((e + (x + (1 + c) * (b - 1))) + ((y + (f + c * 1)) + r)) + 1 ≤ (e + (x + (1 + c) * b)) + ((y + (f + c * n)) + r)
-      by e x c y f r zero n none some = omega arith
-      by e x c y f r (suc b) n none some = let less : suc b - 1 ≡ b = omega arith in rw (less, none) (omega arith)
+  accepts none some = rw none (omega (arith, one_less (1 + client_weight st.limits) st.kernel.backlog (ltb-true _ _ some)))
 
   delivers_fine : (batch : List Name) → st.batch ≡ batch → Kept (Fine l st true) (delivers st batch)
   delivers_fine [] is = kept_none
   delivers_fine (name.Listener ∷ rest) is = kept_some (record { sound = assumption s; lighter = λ own. rw is (omega arith) })
   delivers_fine (name.Waker ∷ rest) is = kept_some (record { sound = assumption s; lighter = λ own. rw is (omega arith) })
-  delivers_fine (name.End n ∷ rest) is = kept_some (by ((n.slot == 0) && (st.entry == n.generation)))
-    where
-      by : (b : Bool) → Fine l st true (record (if b then posted st n.generation else st) { batch = rest })
-      by true = record { sound = assumption s; lighter = λ own. rw is (omega (arith, posted_weighs st n.generation)) }
-      by false = record { sound = assumption s; lighter = λ own. rw is (omega arith) }
+  delivers_fine (name.End n ∷ rest) is = kept_some (chosen (λ (q : System). Fine l st true (record q { batch = rest }))
+      ((n.slot == 0) && (st.entry == n.generation)) _ _
+      (record { sound = assumption s; lighter = λ own. rw is (omega (arith, posted_weighs st n.generation)) })
+      (record { sound = assumption s; lighter = λ own. rw is (omega arith) }))
 
   -- any step
 
@@ -274,10 +263,10 @@ at_rest core laws l steps st alone some below four ran stopped =
     let sound = from_start core laws l alone steps st ran in
     let over : (i : ℕ) (t : Thread) → slice_get st.threads i ≡ Some t → t.todo ≡ [] = λ i t at.
     no_program sound stopped below i t at (known_in core laws l alone steps st r i t at) refl in
-    let batch = no_batch sound stopped some over st.batch refl in
+    let batch = no_batch sound stopped some over in
     let queue = no_queue sound stopped some over batch st.kernel.queue refl in
-    let accepted = no_client sound stopped some over st.accepted refl in
-    let tickets = no_tickets sound stopped some over four st.tickets refl in
+    let accepted = no_client sound stopped some over in
+    let tickets = no_tickets sound stopped some over four in
     let last = still st sound over tickets batch queue r.world r.like (turns_after core l r.made r.world r.allowed) r.holds.listener (counted_after l r.made r.world r.allowed) in
     record {
       run = r;
@@ -286,7 +275,7 @@ at_rest core laws l steps st alone some below four ran stopped =
       batch = batch;
       queue = queue;
       accepted = accepted;
-      clients = no_clients sound stopped some over accepted last.waits st.free refl;
+      clients = no_clients sound stopped some over accepted last.waits;
       notes = last.notes;
       due = last.due;
       movable = λ s. let due = r.holds.due s in let none = last.due s in grind arith;

@@ -1,24 +1,21 @@
 -- What holds after any list of steps, and what no thread ever finds.
 pub mod Programs
 use Rattle.world.{specs.{declared.limits.Limits.Limits, Headline.EveryRunHolds, CoreLaws.CoreLaws, States.{opening, unused as unused_place}}, proofs.Headline.Ends.Pairs.Holders.{Events.{holds_after, Lists.{get-replicate, get_beside}}, turns_after, turns_on}}
-use Rattle.common.specs.Acts.{gone_turn, ended_turn}
-use Rattle.interleaving.specs.{Threads.{Claim, Close, Play, ProgramsAreThese, PutIn, gone, resting, run, seen, start}, Likeness.{exchanges, taken_word, EveryInterleavingIsARun, EveryStepIsFollowed, NoActInVain}}
+use Rattle.interleaving.specs.{Likeness.{EveryInterleavingIsARun, EveryStepIsFollowed, NoActInVain, exchanges, taken_word}, Threads.{ProgramsAreThese, gone, resting, run, start}}
 use Rattle.std.proofs.lemmas.Option.{option_and_then_some, same_Some}
 use Programs.*
 
 -- The programs are the server's acts
 
 pub programs_are_these : ProgramsAreThese
-programs_are_these =
-    record { busy = refl; gone = gone_seen; quiet = λ woke. grind arith; again = λ woke. grind arith; ended = ended_seen; opening = refl }
-  where
-    gone_seen : (other woke : Bool) → seen (gone_turn other woke) ≡ Claim ∷ TakeOut ∷ (if other then PutIn ∷ gone else gone)
-    gone_seen true woke = grind arith
-    gone_seen false woke = grind arith
-
-    ended_seen : (given : Bool) → seen (ended_turn given) ≡ turn ++ Play ∷ (if given then ended else Close ∷ Retire ∷ [])
-    ended_seen true = refl
-    ended_seen false = refl
+programs_are_these = record {
+  busy = refl;
+  gone = λ other woke. grind arith;
+  quiet = λ woke. grind arith;
+  again = λ woke. grind arith;
+  ended = λ given. grind arith;
+  opening = refl;
+}
 
 module _ (st : System) (p : SlotState) (workers : List WorkerState) (set : Settled st p workers) (turns : Turns (machine_of st p st.entry st.tickets workers)) where
   finds_settled : {i : ℕ} {t : Thread} {k : WorkerState} {todo : List Act} → slice_get workers i ≡ Some k → ThreadLike st.limits.budget st.place p i t k todo

@@ -10,10 +10,7 @@ use Rattle.world.specs.declared.event.Reported.TheVariants as reported
 -- once a client waits, a front holds by what is on its way; the backlog may have any size then
 with_backlog : (server : Server) (b c p : ℕ) (f : Front) → nat_lt 0 b ≡ true → FrontHolds server b p f → FrontHolds server c p f
 with_backlog server b c p f some h =
-    let more : 0 < b = ltb-true _ _ some in
-    let none : (b == 0) ≡ false = ne_eqb b 0 (λ e. absurd (omega arith)) in
-    let was : ((not f.listens || f.flag) || ((f.armed && false) || (f.reported || list_any is_listener f.batch))) ≡ true = rw none at h.listener in
-    record { listener = grind arith; share = h.share; own = h.own }
+    record { listener = (let was = h.listener in grind (arith, nat_tests)); share = h.share; own = h.own }
 
 -- names as a poll gives them
 vec_of : (names : List Name) → length names ≤ 256 → (v : Vec Name Global) × (v.items ≡ names)
@@ -78,7 +75,7 @@ module _ (m : Many) (between : Between m) where
 
   -- a report of the listener or of the waker
   hears : (p : ℕ) (r : Report) (rest : List Report) (flag : Bool) → (m.fronts p).batch ≡ r ∷ rest → ((s : ℕ) → names_at s (r ∷ rest) ≡ names_at s rest)
-      → AreOwn m.server.owner p rest → ((s : ℕ) → Sees m s (Deliver p) [])
+      → list_all (is_own m.server.owner p) rest ≡ true → ((s : ℕ) → Sees m s (Deliver p) [])
       → ((not (m.fronts p).listens || flag) || (((m.fronts p).armed && m.backlog == 0) || ((m.fronts p).reported || list_any is_listener rest))) ≡ true
       → Next m (Deliver p) (with_front m p (record (m.fronts p) { flag = flag; batch = rest }))
   hears p r rest flag is names own at_none holds =
@@ -180,16 +177,16 @@ module _ (m : Many) (between : Between m) where
   -- any step
 
   pub next : (x : Step) → Kept (Next m x) (step m x)
-  next (Tick s n) = by_still m between (Tick s n) _ (λ t own e. e) (leaves_tick (slot_of m s) n)
-  next (Network s side change) = by_still m between (Network s side change) _ (λ t own e. e) (leaves_network (slot_of m s) side change)
-  next (Spurious s side) = by_still m between (Spurious s side) _ (λ t own e. e) (leaves_spurious (slot_of m s) (reported.End 0 side))
-  next (Vanish s side) = by_still m between (Vanish s side) _ (λ t own e. e) (leaves_vanish (slot_of m s) (reported.End 0 side))
+  next (Tick s n) = by_still m between (Tick s n) _ (λ t own e. e) (λ q. leaves (slot_of m s) q (alone.Tick n) refl refl refl)
+  next (Network s side change) = by_still m between (Network s side change) _ (λ t own e. e) (λ q. leaves (slot_of m s) q (alone.Network side change) refl refl refl)
+  next (Spurious s side) = by_still m between (Spurious s side) _ (λ t own e. e) (λ q. leaves (slot_of m s) q (alone.Spurious (reported.End 0 side)) refl refl refl)
+  next (Vanish s side) = by_still m between (Vanish s side) _ (λ t own e. e) (λ q. leaves (slot_of m s) q (alone.Vanish (reported.End 0 side)) refl refl refl)
   next Connect = connects
   next (Rumour p) = rumours p
   next (Retract p) = retracts p
   next (Poll p reports) = kept_when _ _ (λ rested. polls p reports rested)
   next (Deliver p) = kept_when _ _ (λ rested. delivers p (m.fronts p).batch refl)
-  next (Sweep p s) = kept_when (may m (Sweep p s)) _ (λ h. by_still m between (Sweep p s) _ (λ t own e. e) (leaves_sweep (slot_of m s)))
+  next (Sweep p s) = kept_when (may m (Sweep p s)) _ (λ h. by_still m between (Sweep p s) _ (λ t own e. e) (λ q. leaves (slot_of m s) q alone.Sweep refl refl refl))
   next (Accept p reply) = kept_when _ _ (λ rested. kept_when _ _ (λ h. answers p reply h))
   next Refuse = refuses
   next (Stop p) = kept_when _ _ (λ rested. stops p)
@@ -197,8 +194,8 @@ module _ (m : Many) (between : Between m) where
   next (Open p s) = kept_when _ _ (λ h. opens m between p s h)
   next (Begin i from most) = kept_when _ _ (λ rested. begins m between i from most rested (first_of (suits i from) m.tickets) refl)
   next (Put i s) = puts i s
-  next (Acts i) = by_thread m between (Acts i) i _ (λ t own e. e) (leaves_acting (slot_of m (m.busy_at i)) (rank_at m (m.busy_at i) i) refl)
-  next (Calls i r) = by_thread m between (Calls i r) i _ (λ t own e. e) (leaves_calling (slot_of m (m.busy_at i)) (rank_at m (m.busy_at i) i) r)
+  next (Acts i) = by_thread m between (Acts i) i _ (λ t own e. e) (λ q. leaves (slot_of m (m.busy_at i)) q (alone.Acts (rank_at m (m.busy_at i) i)) refl refl refl)
+  next (Calls i r) = by_thread m between (Calls i r) i _ (λ t own e. e) (λ q. leaves (slot_of m (m.busy_at i)) q (alone.Calls (rank_at m (m.busy_at i) i) r) refl refl refl)
 
 -- What a slot has seen
 
@@ -269,7 +266,7 @@ module _ (law : EveryInterleavingIsARun) (server : Server) (inside : (s : ℕ) �
     own = λ s. [];
     leads = λ s. refl;
     apart = λ i s some other. rests_first server.limits.workers (rank (server.owner s) i) (rank_below server.limits.workers (server.owner s) i (inside s) some);
-    fronts = λ p. record { listener = refl; share = omega arith; own = tt };
+    fronts = λ p. record { listener = refl; share = omega arith; own = refl };
   }
 
   stand : (steps : List Step) (m : Many) → run (start server) steps ≡ Some m → AllStandApart server steps m

@@ -1,7 +1,7 @@
 -- A whole server, left alone, comes to rest: each of its own steps makes it lighter.
 use Rattle.claims.specs.Words.{one}
-use Rattle.interleaving.{proofs.{Rest.Acts.Weights.{most_at, not_so, polled as left_queue}, Runs.run_on, Slots.{Reached, between, first, goes, next, reach, Steps.{Next, Stood, queued, set_here, set_there, stood, turn_of}}}, specs.{Likeness.EveryInterleavingIsARun, Rest.{LeftAloneItEnds, client_weight, most}, Slots.{Accept, Acts, Begin, Calls, Deed, Deliver, Drop, Front, Listener, Many, Of, Open, Poll, Put, Report, Sees, Server, Step, Taken, Ticket, Waker, answered, are_queued, besides, deed, delivering, first_of, in_hand, is_listener, makes, may, may_accept, names_at, one_slot, opening, polled, rank_at, rests, run, set, shared, slot_of, start, step, steps_at, suits, tickets_at, with_front, written}, Threads.System, Whole.{ServersComeToRest, accepted_weight, front_weight, hand_weight, is_own, is_waker, report_weight, wakes, weight}}}
-use Rattle.kernel_model.specs.{Kernel.reported, Names.{has, without_names}, declared.accepting.Accepting.{Accepting, TheVariants.{Accepted, Again, Blocked, Starved}}}
+use Rattle.interleaving.{proofs.{Rest.Acts.Weights.{most_at, not_so, one_less, polled as left_queue}, Runs.run_on, Slots.{Reached, between, first, goes, next, reach, Steps.{Next, Stood, queued, queued_rest, set_here, set_there, stood, turn_of}}}, specs.{Likeness.EveryInterleavingIsARun, Rest.{LeftAloneItEnds, client_weight, most}, Slots.{Accept, Acts, Begin, Calls, Deed, Deliver, Drop, Front, Listener, Many, Of, Open, Poll, Put, Report, Sees, Server, Step, Taken, Ticket, Waker, answered, are_queued, besides, deed, delivering, first_of, in_hand, is_listener, makes, may, may_accept, names_at, one_slot, opening, polled, rank_at, rests, run, set, shared, slot_of, start, step, steps_at, suits, tickets_at, with_front, written}, Threads.System, Whole.{ServersComeToRest, accepted_weight, front_weight, hand_weight, is_own, is_waker, report_weight, wakes, weight}}}
+use Rattle.kernel_model.specs.{Kernel.reported, Names.without_names, declared.accepting.Accepting.{Accepting, TheVariants.{Accepted, Again, Blocked, Starved}}}
 use Rattle.std.{proofs.{Common.{Bool, List, None, Option, Some, [], ap, arith, drop, eq-eqb, false, if◌then◌else◌, inl, inr, length, length-append, ltb-true, map, nat_le, nat_lt, ne_eqb, not, option_map, refl, suc, sym, true, zero, ℕ, ◌&&◌, ◌*◌, ◌++◌, ◌+◌, ◌-◌, ◌<◌, ◌==◌, ◌∙◌, ◌∷◌, ◌≡◌, ◌≢◌, ◌≤◌, ◌⊎◌}, lemmas.{Bool.{and_parts, cases_eq}, List.length-drop, Option.{option_and_then_some, same_Some}}}, specs.{Cmp.second_so, List.{list_all, list_any}}}
 use Rattle.token.specs.declared.name.Name.{Name, TheVariants.Listener as listener_name}
 use Rattle.world.{proofs.Headline.Ends.Pairs.Holders.Events.Lists.{Kept, kept_at, kept_guard, kept_map, kept_none, kept_over, kept_some, kept_when, total_le, total_push}, specs.{Calls.when, States.numbers_below, Support.total}}
@@ -66,17 +66,8 @@ is_end r = 0
 reports_weigh : (m : Many) (p : ℕ) (rs : List Report) → are_queued m p rs ≡ true → let was = (m.fronts p).reported in
     (3 * one (was && not (list_any is_listener rs)) + total report_weight rs) + length rs ≤ (3 * one was + total is_end rs) + 2 * total is_waker rs
 reports_weigh m p [] h = grind arith
-reports_weigh m p (Listener ∷ rs) h =
-    let f = m.fronts p in
-    let parts = and_parts (f.reported && not (list_any is_listener rs)) (are_queued m p rs) h in
-    let was : f.reported ≡ true = (and_parts f.reported _ parts.0).0 in
-    let rest = rw (parts.0, was) at (reports_weigh m p rs parts.1) in
-    rw was (omega arith)
-reports_weigh m p (Waker ∷ rs) h = let rest = reports_weigh m p rs h in omega arith
-reports_weigh m p (Of s name ∷ rs) h =
-    let others = second_so (not (has name (names_at s rs))) _ (second_so (has name (m.places s).kernel.queue) _ (second_so (nat_lt s m.server.limits.slots && m.server.owner s == p) _ h)) in
-    let rest = reports_weigh m p rs others in
-    omega arith
+reports_weigh m p (Listener ∷ rs) h = let rest = reports_weigh m p rs (queued_rest m p Listener rs h) in grind arith
+reports_weigh m p (r ∷ rs) h = let rest = reports_weigh m p rs (queued_rest m p r rs h) in omega arith
 
 -- the names that slots of the poller p get
 abbrev given : Many → ℕ → List Report → ℕ → ℕ
@@ -84,17 +75,14 @@ given m p rs s = if m.server.owner s == p then length (names_at s rs) else 0
 
 ends_given : (m : Many) (p : ℕ) (rs : List Report) → are_queued m p rs ≡ true → total is_end rs ≤ total (given m p rs) (numbers_below m.server.limits.slots)
 ends_given m p [] h = omega arith
-ends_given m p (Listener ∷ rs) h = let rest = ends_given m p rs (second_so ((m.fronts p).reported && not (list_any is_listener rs)) _ h) in omega arith
-ends_given m p (Waker ∷ rs) h = let rest = ends_given m p rs h in omega arith
 ends_given m p (Of t name ∷ rs) h =
-    let parts = and_parts _ _ h in
-    let within = and_parts _ _ parts.0 in
-    let others = second_so _ _ (second_so _ _ parts.1) in
-    let rest = ends_given m p rs others in
+    let within = and_parts _ _ (and_parts _ _ h).0 in
+    let rest = ends_given m p rs (queued_rest m p (Of t name) rs h) in
     let apart = differs_at m.server.limits.slots t (given m p (Of t name ∷ rs)) (given m p rs) (ltb-true _ _ within.0)
     (λ i other. rw (ne_eqb t i (λ e. other (sym e))) refl) in
     let this : given m p (Of t name ∷ rs) t ≡ suc (given m p rs t) = rw (within.1, eq-eqb _ _ refl) refl in
     omega arith
+ends_given m p (r ∷ rs) h = let rest = ends_given m p rs (queued_rest m p r rs h) in omega arith
 
 -- One slot
 
@@ -250,12 +238,7 @@ module _ (law : EveryInterleavingIsARun) (ends : LeftAloneItEnds) (server : Serv
         let f = m.fronts p in
         let none : f.accepted ≡ false = not_so f.accepted (and_parts _ _ (second_so _ _ can)).0 in
         kept_guard _ _ (λ some. fronts_only (Accept p Accepted) p (record f { accepted = true }) (m.backlog - 1) below (λ s own e. e)
-        (sums _ _ _ _ m.backlog none (ltb-true _ _ some)))
-      where
-        sums : (a g r t : ℕ) {had : Bool} (b : ℕ) → had ≡ false → 0 < b
-            → ((1 + a) * (b - 1) + (g + (3 * r + (t + a * 1)))) + 1 ≤ (1 + a) * b + (g + (3 * r + (t + a * one had)))
-        sums a g r t zero none some = omega arith
-        sums a g r t (suc b) none some = let less : suc b - 1 ≡ b = omega arith in rw (less, none) (omega arith)
+        (rw none (omega (arith, one_less (1 + A) m.backlog (ltb-true _ _ some)))))
     accepts p Blocked own below can =
         let f = m.fronts p in
         let up = second_so f.listens f.flag (and_parts (f.listens && f.flag) _ can).0 in

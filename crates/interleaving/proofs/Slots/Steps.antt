@@ -1,9 +1,10 @@
 -- What a step of a server is at each slot, and what stays true by it.
 pub mod Deeds
 pub use Rattle.interleaving.specs.{Slots.{Begin, Deed, Deliver, Front, Listener, Many, Of, Open, Report, Sees, Server, Step, Taken, Ticket, Waker, are_queued, besides, deed, delivering, first_of, in_hand, is_listener, makes, names_at, one_slot, rank, rank_at, rests, set, slot_of, steps_at, suits, tickets_at, written}, Threads.rests_at}
-pub use Rattle.kernel_model.specs.Names.{are_among, are_distinct, has}
+pub use Rattle.kernel_model.specs.Names.{are_among, are_distinct}
 pub use Rattle.readiness.proofs.Runs.{mapped}
-pub use Rattle.std.{proofs.{Common.{eq-eqb, eqb-true, inl, inr, length, length-append, map, ne_eqb, option_map, ◌<◌, ◌||◌, ◌≢◌, ◌≤◌, ◌⊎◌}, Math.Seq.drop-append_seam, lemmas.{Bool.{and_parts, cases_eq, Decides.nat_tests}, List.nil_from_length, Option.same_Some}}, specs.{Cmp.second_so, List.list_any}}
+pub use Rattle.token.specs.declared.name.Name.{Name}
+pub use Rattle.std.{proofs.{Common.{eqb-true, inl, inr, length-append, map, nat_lt, ne_eqb, option_map, ◌<◌, ◌||◌, ◌≢◌, ◌≤◌, ◌⊎◌}, lemmas.{Bool.{and_parts, cases_eq, Decides.nat_tests}, List.{nil_from_length, take-append-drop}, Option.same_Some}}, specs.{Cmp.second_so, List.{list_all, list_any}}}
 pub use Rattle.world.{proofs.Headline.Ends.Pairs.Holders.Events.Lists.kept_at, specs.Calls.when}
 pub use Deeds.*
 pub use Rattle.interleaving.specs.Threads as alone
@@ -38,21 +39,22 @@ pub tickets_append : (s : ℕ) (xs ys : List Ticket) → tickets_at s (xs ++ ys)
 tickets_append s [] ys = refl
 tickets_append s (t ∷ ts) ys = let rest = tickets_append s ts ys in grind (arith, rest)
 
-made_here : (s i : ℕ) (gs : List ℕ) → tickets_at s (map (in_hand s i) gs) ≡ gs
-made_here s i [] = refl
-made_here s i (g ∷ gs) = rw (eq-eqb _ _ refl) (ap (λ (hs : List ℕ). g ∷ hs) (made_here s i gs))
-
-made_there : (s t i : ℕ) (gs : List ℕ) → t ≢ s → tickets_at t (map (in_hand s i) gs) ≡ []
-made_there s t i [] other = refl
-made_there s t i (g ∷ gs) other = rw (ne_eqb s t (λ e. other (sym e))) (made_there s t i gs other)
-
 -- the tickets that a deed makes are its slot's
-pub brought_here : (s i : ℕ) (ts : List Ticket) (gs made : List ℕ) → gs ≡ tickets_at s ts ++ made
-    → tickets_at s (ts ++ map (in_hand s i) (drop (length (tickets_at s ts)) gs)) ≡ gs
-brought_here s i ts gs made is = rw (is, drop-append_seam (tickets_at s ts) made) (tickets_append s ts _ ∙ ap (λ (hs : List ℕ). tickets_at s ts ++ hs) (made_here s i made))
+brought : (s t i : ℕ) (gs : List ℕ) → tickets_at t (map (in_hand s i) gs) ≡ (if s == t then gs else [])
+brought s t i [] = grind arith
+brought s t i (g ∷ gs) = let rest = brought s t i gs in grind arith
 
-pub brought_there : (s t i : ℕ) (ts : List Ticket) (gs : List ℕ) → t ≢ s → tickets_at t (ts ++ map (in_hand s i) gs) ≡ tickets_at t ts
-brought_there s t i ts gs other = tickets_append t ts _ ∙ ap (λ (hs : List ℕ). tickets_at t ts ++ hs) (made_there s t i gs other) ∙ append-nil (tickets_at t ts)
+brought_here : (s i : ℕ) (ts : List Ticket) (gs : List ℕ) → take (length (tickets_at s ts)) gs ≡ tickets_at s ts
+    → tickets_at s (ts ++ map (in_hand s i) (drop (length (tickets_at s ts)) gs)) ≡ gs
+brought_here s i ts gs is = let n = length (tickets_at s ts) in
+    let made = rw (eq-eqb s s refl) at (brought s s i (drop n gs)) in
+    tickets_append s ts _ ∙ (ap (λ (hs : List ℕ). tickets_at s ts ++ hs) made
+    ∙ (ap (λ (hs : List ℕ). hs ++ drop n gs) (sym is) ∙ take-append-drop n gs))
+
+brought_there : (s t i : ℕ) (ts : List Ticket) (gs : List ℕ) → t ≢ s → tickets_at t (ts ++ map (in_hand s i) gs) ≡ tickets_at t ts
+brought_there s t i ts gs other =
+    let made = rw (ne_eqb s t (λ e. other (sym e))) at (brought s t i gs) in
+    tickets_append t ts _ ∙ (ap (λ (hs : List ℕ). tickets_at t ts ++ hs) made ∙ append-nil (tickets_at t ts))
 
 -- The ticket that is taken
 
@@ -108,6 +110,9 @@ fewer_names s [] = omega arith
 fewer_names s (Of t n ∷ rs) = let h = fewer_names s rs in grind (arith, nat_tests)
 fewer_names s (r ∷ rs) = let h = fewer_names s rs in omega arith
 
+pub queued_rest : (m : Many) (p : ℕ) (r : Report) (rs : List Report) → are_queued m p (r ∷ rs) ≡ true → are_queued m p rs ≡ true
+queued_rest m p r rs h = grind arith
+
 -- what a poll may give is queued at each slot, once
 pub record Queued (s : ℕ) (queue : List Name) (rs : List Report) : Type 0 where
   pub among : are_among queue (names_at s rs) ≡ true
@@ -115,39 +120,18 @@ pub record Queued (s : ℕ) (queue : List Name) (rs : List Report) : Type 0 wher
 
 pub queued : (m : Many) (p s : ℕ) (rs : List Report) → are_queued m p rs ≡ true → Queued s (m.places s).kernel.queue rs
 queued m p s [] h = record { among = refl; once = refl }
-queued m p s (Listener ∷ rs) h = let r = queued m p s rs (second_so ((m.fronts p).reported && not (list_any is_listener rs)) _ h) in record { among = r.among; once = r.once }
-queued m p s (Waker ∷ rs) h = let r = queued m p s rs h in record { among = r.among; once = r.once }
-queued m p s (Of t n ∷ rs) h = by (cases_eq t s) (queued m p s rs (second_so (not (has n (names_at t rs))) _ others))
-  where
-    parts : (has n (m.places t).kernel.queue && (not (has n (names_at t rs)) && are_queued m p rs)) ≡ true
-    parts = second_so (nat_lt t m.server.limits.slots && m.server.owner t == p) _ h
+queued m p s (r ∷ rs) h =
+    let q = queued m p s rs (queued_rest m p r rs h) in
+    record { among = grind (arith, nat_tests); once = grind (arith, nat_tests) }
 
-    others : (not (has n (names_at t rs)) && are_queued m p rs) ≡ true
-    others = second_so (has n (m.places t).kernel.queue) _ parts
+-- a report of an end is of a slot of this poller
+abbrev pub is_own : (ℕ → ℕ) → ℕ → Report → Bool
+is_own owner p (Of s n) = owner s == p
+is_own owner p r = true
 
-    by : (t ≡ s) ⊎ (t ≢ s) → Queued s (m.places s).kernel.queue rs → Queued s (m.places s).kernel.queue (Of t n ∷ rs)
-    by (inl same) rest =
-        let was : has n (m.places t).kernel.queue ≡ true = (and_parts _ _ parts).0 in
-        let fresh : not (has n (names_at t rs)) ≡ true = (and_parts _ _ others).0 in
-        let there : has n (m.places s).kernel.queue ≡ true = rw same at was in
-        let new : not (has n (names_at s rs)) ≡ true = rw same at fresh in
-        record { among = rw (eq-eqb t s same, there) rest.among; once = rw (eq-eqb t s same, new) rest.once }
-    by (inr other) rest = record { among = rw (ne_eqb t s other) rest.among; once = rw (ne_eqb t s other) rest.once }
-
--- all reports of ends are of slots of this poller
-abbrev pub AreOwn : (ℕ → ℕ) → ℕ → List Report → Type 0
-AreOwn owner p [] = Unit {0}
-AreOwn owner p (Of s n ∷ rs) = (owner s ≡ p) × AreOwn owner p rs
-AreOwn owner p (r ∷ rs) = AreOwn owner p rs
-
-pub own_reports : (m : Many) (p : ℕ) (rs : List Report) → are_queued m p rs ≡ true → AreOwn m.server.owner p rs
-own_reports m p [] h = tt
-own_reports m p (Listener ∷ rs) h = own_reports m p rs (second_so _ _ h)
-own_reports m p (Waker ∷ rs) h = own_reports m p rs h
-own_reports m p (Of t n ∷ rs) h =
-    let parts = and_parts _ _ h in
-    let others = second_so _ _ parts.1 in
-    (eqb-true _ _ (second_so _ _ parts.0), own_reports m p rs (second_so _ _ others))
+pub own_reports : (m : Many) (p : ℕ) (rs : List Report) → are_queued m p rs ≡ true → list_all (is_own m.server.owner p) rs ≡ true
+own_reports m p [] h = refl
+own_reports m p (r ∷ rs) h = let rest = own_reports m p rs (queued_rest m p r rs h) in grind arith
 
 -- Ranks: a poller and thread 0 are in exchange
 
@@ -178,7 +162,7 @@ count b = if b then 1 else 0
 pub record FrontHolds (server : Server) (backlog p : ℕ) (f : Front) : Type 0 where
   pub listener : ((not f.listens || f.flag) || ((f.armed && backlog == 0) || (f.reported || list_any is_listener f.batch))) ≡ true
   pub share : f.opened + count f.accepted ≤ server.share p
-  pub own : AreOwn server.owner p f.batch
+  pub own : list_all (is_own server.owner p) f.batch ≡ true
 
 abbrev pub FrontsHold : Many → Type 0
 FrontsHold m = (p : ℕ) → FrontHolds m.server m.backlog p (m.fronts p)
@@ -277,7 +261,7 @@ module _ (m : Many) (x : Step) (d : Deed) (n : Many) (q : System) where
           was (inr never) before = apart i s some never
 
 -- a deed, with other fronts and threads elsewhere besides
-front_done : (m : Many) (x : Step) (d : Deed) (q : System) (fronts : ℕ → Front) (busy : ℕ → ℕ) {moves : ℕ → Type 0} {names : List Name} → Leaves moves names (slot_of m d.slot) q
+front_done : (m : Many) (x : Step) (d : Deed) (q : System) (fronts : ℕ → Front) (busy : ℕ → ℕ) {moves : ℕ → Bool} {names : ℕ} → Leaves moves names (slot_of m d.slot) q
     → ((s : ℕ) → s ≢ d.slot → names_at s (fronts (m.server.owner s)).batch ≡ names_at s (m.fronts (m.server.owner s)).batch)
     → names_at d.slot (fronts (m.server.owner d.slot)).batch ≡ q.batch → Done m x d (record (written m d q) { fronts = fronts; busy_at = busy }) q
 front_done m x d q fronts busy left names here = record {
@@ -286,13 +270,13 @@ front_done m x d q fronts busy left names here = record {
   names = names;
   names_here = here;
   tickets = λ s other. brought_there d.slot s d.thread m.tickets _ other;
-  tickets_here = brought_here d.slot d.thread m.tickets q.tickets left.made left.tickets;
+  tickets_here = brought_here d.slot d.thread m.tickets q.tickets left.tickets;
   common = left.common;
 }
 
 -- with nothing besides
-written_done : (m : Many) (x : Step) (d : Deed) (q : System) {moves : ℕ → Type 0} → Leaves moves [] (slot_of m d.slot) q → Done m x d (written m d q) q
-written_done m x d q left = front_done m x d q m.fronts m.busy_at left (λ s other. refl) left.batch
+written_done : (m : Many) (x : Step) (d : Deed) (q : System) {moves : ℕ → Bool} → Leaves moves 0 (slot_of m d.slot) q → Done m x d (written m d q) q
+written_done m x d q left = front_done m x d q m.fronts m.busy_at left (λ s other. refl) (sym left.batch)
 
 -- Steps with a deed
 
@@ -301,27 +285,26 @@ abbrev pub turn_of : Many → ℕ → ℕ → Taken → Deed
 turn_of m i most c = record { slot = c.ticket.slot; thread = i; own = alone.Begin (rank_at m c.ticket.slot i) most ∷ [] }
 
 module _ (m : Many) (between : Between m) where
-  -- by what the slot's own steps keep
-  by_deed : {P : System → Type 0} (x : Step) (d : Deed) (made : System → Many) → Kept P (alone.run (slot_of m d.slot) d.own)
-      → ((q : System) → alone.run (slot_of m d.slot) d.own ≡ Some q → P q → Next m x (made q))
+  by_deed : (x : Step) (d : Deed) (made : System → Many) → ((q : System) → alone.run (slot_of m d.slot) d.own ≡ Some q → Next m x (made q))
       → Kept (Next m x) (when (nat_lt d.slot m.server.limits.slots) (option_map made (alone.run (slot_of m d.slot) d.own)))
-  by_deed {P} x d made kept leads = kept_when _ _ (λ within. kept_map _ _ (λ q ran. leads q ran (kept_at {P = P} _ q ran kept)))
+  by_deed x d made leads = kept_when _ _ (λ within. kept_map made _ leads)
 
   pub by_still : (x : Step) (d : Deed) → ((s : ℕ) (own : List alone.Step) → own ≡ steps_at s (Some d) → Sees m s x own)
-      → Kept (Leaves nobody [] (slot_of m d.slot)) (alone.run (slot_of m d.slot) d.own)
+      → ((q : System) → alone.run (slot_of m d.slot) d.own ≡ Some q → Leaves (λ j. false) 0 (slot_of m d.slot) q)
       → Kept (Next m x) (when (nat_lt d.slot m.server.limits.slots) (option_map (λ (q : System). written m d q) (alone.run (slot_of m d.slot) d.own)))
-  by_still x d is kept = by_deed x d (λ q. written m d q) kept (λ q ran left.
-      deed_next m x d (written m d q) q (written_done m x d q left) is ran (λ i. inl (refl, left.others _ (λ no. no))) between.apart between.fronts)
+  by_still x d is leaves = by_deed x d (λ q. written m d q) (λ q ran. let left = leaves q ran in
+      deed_next m x d (written m d q) q (written_done m x d q left) is ran (λ i. inl (refl, left.others _ refl)) between.apart between.fronts)
 
   -- the next act or call of the thread i
   pub by_thread : (x : Step) (i : ℕ) (own : List alone.Step) → let d : Deed = record { slot = m.busy_at i; thread = i; own = own } in
       ((s : ℕ) (own : List alone.Step) → own ≡ steps_at s (Some d) → Sees m s x own)
-      → Kept (Leaves (only (rank_at m (m.busy_at i) i)) [] (slot_of m (m.busy_at i))) (alone.run (slot_of m (m.busy_at i)) own)
+      → ((q : System) → alone.run (slot_of m (m.busy_at i)) own ≡ Some q → Leaves (λ j. j == rank_at m (m.busy_at i) i) 0 (slot_of m (m.busy_at i)) q)
       → Kept (Next m x) (when (nat_lt d.slot m.server.limits.slots) (option_map (λ (q : System). written m d q) (alone.run (slot_of m (m.busy_at i)) own)))
-  by_thread x i own is kept =
+  by_thread x i own is leaves =
       let d : Deed = record { slot = m.busy_at i; thread = i; own = own } in
-      by_deed x d (λ q. written m d q) kept (λ q ran left. deed_next m x d (written m d q) q (written_done m x d q left) is ran
-      (moved m x d (written m d q) q i refl (λ j other. refl) (inl refl) (λ j other. left.others j other)) between.apart between.fronts)
+      by_deed x d (λ q. written m d q) (λ q ran. let left = leaves q ran in
+      deed_next m x d (written m d q) q (written_done m x d q left) is ran
+      (moved m x d (written m d q) q i refl (λ j other. refl) (inl refl) (λ j other. left.others j (ne_eqb _ _ other))) between.apart between.fronts)
 
   pub opens : (p s : ℕ) → (rests m p && (m.server.owner s == p && (m.fronts p).accepted)) ≡ true → Kept (Next m (Open p s)) (makes m (Open p s) (deed m (Open p s)))
   opens p s allowed =
@@ -332,12 +315,13 @@ module _ (m : Many) (between : Between m) where
       let mine = and_parts (m.server.owner s == p) f.accepted parts.1 in
       let first : rank (m.server.owner s) p ≡ 0 = rw (eqb-true (m.server.owner s) p mine.0) (rank_first p) in
       let within : f.opened + 1 ≤ m.server.share p = rw mine.1 at (between.fronts p).share in
-      by_deed (Open p s) d (λ q. besides m (Open p s) (written m d q)) (leaves_opening (slot_of m s) refl) (λ q ran left.
+      by_deed (Open p s) d (λ q. besides m (Open p s) (written m d q)) (λ q ran.
+      let left = leaves_opening (slot_of m s) q refl ran in
       let n : Many = besides m (Open p s) (written m d q) in
       deed_next m (Open p s) d n q (front_done m (Open p s) d q (set m.fronts p new) (set m.busy_at p s) left
-      (λ t other. same_names m.fronts p new t (m.server.owner t) (λ e. refl)) (same_names m.fronts p new s (m.server.owner s) (λ e. refl) ∙ left.batch))
+      (λ t other. same_names m.fronts p new t (m.server.owner t) (λ e. refl)) (same_names m.fronts p new s (m.server.owner s) (λ e. refl) ∙ sym left.batch))
       (λ t own e. e) ran
-      (moved m (Open p s) d n q p (set_here m.busy_at p s) (λ i other. set_there m.busy_at p i s other) (inr parts.0) (λ j other. left.others j (λ e. other (e ∙ sym first))))
+      (moved m (Open p s) d n q p (set_here m.busy_at p s) (λ i other. set_there m.busy_at p i s other) (inr parts.0) (λ j other. left.others j (ne_eqb _ _ (λ e. other (e ∙ sym first)))))
       between.apart (λ i. at_each (FrontHolds m.server m.backlog) m.fronts p new i (between.fronts i)
       (λ e. record { listener = (between.fronts p).listener; share = omega (arith, within); own = (between.fronts p).own })))
 
@@ -347,21 +331,21 @@ module _ (m : Many) (between : Between m) where
   delivers_end p s name rest is =
       let d : Deed = record { slot = s; thread = p; own = alone.Deliver ∷ [] } in
       let new : Front = record (m.fronts p) { batch = drop 1 (m.fronts p).batch } in
-      let reported : AreOwn m.server.owner p (Of s name ∷ rest) = rw is at (between.fronts p).own in
-      by_deed (Deliver p) d (λ q. besides m (Deliver p) (written m d q)) (leaves_delivery (slot_of m s) refl) (λ q ran left.
-      deed_next m (Deliver p) d (besides m (Deliver p) (written m d q)) q (front_done m (Deliver p) d q (set m.fronts p new) m.busy_at left.1
-      (λ t other. same_names m.fronts p new t (m.server.owner t) (λ e. rw (is, ne_eqb s t (λ e. other (sym e))) refl)) (here q reported.0 left))
-      (λ t own e. e ∙ ap (λ (rs : List Report). steps_at t (delivering p rs)) (sym is)) ran (λ i. inl (refl, left.1.others _ (λ no. no)))
+      let own = and_parts (m.server.owner s == p) (list_all (is_own m.server.owner p) rest) (rw is at (between.fronts p).own) in
+      by_deed (Deliver p) d (λ q. besides m (Deliver p) (written m d q)) (λ q ran.
+      let left = leaves (slot_of m s) q alone.Deliver refl refl refl ran in
+      deed_next m (Deliver p) d (besides m (Deliver p) (written m d q)) q (front_done m (Deliver p) d q (set m.fronts p new) m.busy_at left
+      (λ t other. same_names m.fronts p new t (m.server.owner t) (λ e. rw (is, ne_eqb s t (λ e. other (sym e))) refl)) (here q (eqb-true _ _ own.0) left))
+      (λ t own e. e ∙ ap (λ (rs : List Report). steps_at t (delivering p rs)) (sym is)) ran (λ i. inl (refl, left.others _ refl))
       between.apart (λ i. at_each (FrontHolds m.server m.backlog) m.fronts p new i (between.fronts i)
-      (λ e. record { listener = rw is (rw is at (between.fronts p).listener); share = (between.fronts p).share; own = rw is reported.1 })))
+      (λ e. record { listener = rw is (rw is at (between.fronts p).listener); share = (between.fronts p).share; own = rw is own.1 })))
     where
-      here : (q : System) → m.server.owner s ≡ p → Delivers (slot_of m s) q
+      here : (q : System) → m.server.owner s ≡ p → Leaves (λ j. false) 1 (slot_of m s) q
           → names_at s (set m.fronts p (record (m.fronts p) { batch = drop 1 (m.fronts p).batch }) (m.server.owner s)).batch ≡ q.batch
       here q own left =
-          let was : names_at s (m.fronts p).batch ≡ left.0 ∷ q.batch = rw own at left.1.batch in
-          let now : name ∷ names_at s rest ≡ left.0 ∷ q.batch = rw (is, eq-eqb _ _ refl) at was in
-          let tail : names_at s rest ≡ q.batch = cc in
-          rw (own, set_here m.fronts p (record (m.fronts p) { batch = drop 1 (m.fronts p).batch }), is) tail
+          let was : q.batch ≡ drop 1 (names_at s (m.fronts p).batch) = rw own at left.batch in
+          let now : q.batch ≡ names_at s rest = rw (is, eq-eqb _ _ refl) at was in
+          rw (own, set_here m.fronts p (record (m.fronts p) { batch = drop 1 (m.fronts p).batch }), is) (sym now)
 
   -- a turn, with the ticket c
   pub begins : (i : ℕ) (from : Option ℕ) (most : ℕ) → rests m i ≡ true → (o : Option Taken) → first_of (suits i from) m.tickets ≡ o
@@ -371,18 +355,18 @@ module _ (m : Many) (between : Between m) where
       let s = c.ticket.slot in
       let d = turn_of m i most c in
       let only_one : Alone s m.tickets c = taken_here _ _ _ is s refl (between.one_ticket s) in
-      by_deed (Begin i from most) d (λ q. besides m (Begin i from most) (written m d q)) (leaves_begin (slot_of m s) (rank_at m s i) most) (λ q ran left.
+      by_deed (Begin i from most) d (λ q. besides m (Begin i from most) (written m d q)) (λ q ran.
+      let left = leaves_begin (slot_of m s) q (rank_at m s i) most ran in
       let n : Many = record (written m d q) { tickets = c.rest; busy_at = set m.busy_at i s } in
-      let had : tickets_at s m.tickets ≡ left.first ∷ q.tickets = left.tickets in
-      let none : q.tickets ≡ [] = cc (had, only_one.whole) in
+      let none : q.tickets ≡ [] = rw only_one.whole at left.2 in
       rw is (deed_next m (Begin i from most) d n q (record {
         server = refl;
         places = λ t. refl;
         names = λ t other. refl;
-        names_here = left.batch;
+        names_here = sym left.1;
         tickets = λ t other. taken_there _ _ _ is t other;
         tickets_here = only_one.rest ∙ sym none;
-        common = left.common;
+        common = left.0;
       }) (λ t own e. e ∙ ap (λ (o : Option Taken). steps_at t (option_map (turn_of m i most) o)) (sym is)) ran
-      (moved m (Begin i from most) d n q i (set_here m.busy_at i s) (λ j other. set_there m.busy_at i j s other) (inr rested) (λ j other. left.others j other))
+      (moved m (Begin i from most) d n q i (set_here m.busy_at i s) (λ j other. set_there m.busy_at i j s other) (inr rested) (λ j other. left.3 j (ne_eqb _ _ other)))
       between.apart between.fronts))

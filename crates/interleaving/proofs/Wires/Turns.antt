@@ -251,10 +251,7 @@ itself {x} a (Read side most) is reads blocks asleep =
 itself a call is reads blocks asleep = let never = rw is at asleep in cc
 
 deliver_ends : (st : System) (batch : List Name) (next : System) → delivers st batch ≡ Some next → next.ends ≡ st.ends
-deliver_ends st [] next h = cc
-deliver_ends st (Listener ∷ rest) next h = rw (some_is h) refl
-deliver_ends st (Waker ∷ rest) next h = rw (some_is h) refl
-deliver_ends st (End n ∷ rest) next h = rw (some_is h) (grind arith)
+deliver_ends st batch next h = grind arith
 
 closes_is : (before : System) (i : ℕ) (t : Thread) (todo : List Act) → slice_get before.threads i ≡ Some t → t.todo ≡ todo → closes before i ≡ is_close todo
 closes_is before i t todo there is = ap (λ (o : Option Thread). unwrap_or (option_map (λ (t : Thread). is_close t.todo) o) false) there ∙ ap is_close is

@@ -2,8 +2,8 @@
 pub use Rattle.claims.specs.Words.{one}
 pub use Rattle.interleaving.specs.Rest.{calls_left, end_weight, flags_up, is_answered, kernel_weight, longest, most, move_weight, moves_left, pair_weight, passes_on, post_weight, socket_weight, spent_weight}
 pub use Rattle.kernel_model.specs.{Ends.{EndState, opened}, Kernel.{KernelState, Registered, end_at, lowest_free, with_end}, Names.{are_among, are_distinct, has, same, without_names}, Outcome.Told, declared.{both.{Descriptors.Descriptors, Sockets.Sockets}, reply.Reply.Reply}}
-pub use Rattle.relay_core.{proofs.Pairs.asked_is_possible, specs.{Calls.{direction_of, side_of}, Order.{call_for, next_call}, Pairs.{PairState, flags_of, fresh, is_live, verdict}, Replies.{after, fits}, declared.{call.Call.{Call, TheVariants.{Join, Read, Shut, Write}}, flags.Flags.Flags}}}
-pub use Rattle.std.proofs.{Common.{Bool, List, None, Option, Some, [], arith, false, get_or, if◌then◌else◌, length, length-append, max, not, refl, slice_get, slice_set, suc, true, zero, ℕ, ◌*◌, ◌+◌, ◌-◌, ◌∷◌, ◌≡◌, ◌≤◌}, lemmas.{Bool.{and_parts, Decides.nat_tests}, Grind.common_steps, List.Sums.{count_by-le-length, length-filter}}}
+pub use Rattle.relay_core.{proofs.Pairs.asked_is_possible, specs.{Calls.{direction_of, side_of}, Order.{call_for, next_call}, Pairs.{PairState, flags_of, fresh, is_live, verdict}, Replies.{after, fits}, declared.{call.Call.{Call, TheVariants.Read}, flags.Flags.Flags}}}
+pub use Rattle.std.proofs.{Common.{Bool, List, None, Option, Some, [], ◌<◌, arith, false, get_or, if◌then◌else◌, length, length-append, max, not, refl, slice_get, slice_set, suc, true, zero, ℕ, ◌*◌, ◌+◌, ◌-◌, ◌∷◌, ◌≡◌, ◌≤◌}, lemmas.{Bool.{and_parts, Decides.nat_tests}, Grind.common_steps, List.Sums.{count_by-le-length, length-filter}}}
 pub use Rattle.token.specs.{Names.EndName, Sides.opposite, declared.{direction.Direction.Direction, name.Name.Name}}
 pub use Rattle.world.{proofs.Headline.Ends.Pairs.Holders.Events.{end_after, Lists.{Kept, kept_at, kept_bind, kept_map, kept_over, kept_when, same_end_is, total-set, total_push}}, specs.{Calls.{OpenConnection, descriptor, made, told_of}, Leads.{LeadTable, lead_at}, Support.total, declared.limits.Limits.Limits}}
 unfoldable pub use Rattle.world.specs.Calls.{called}
@@ -105,12 +105,7 @@ read_by value = 0
 
 pub moves_less : (now : ℕ) (p : PairState) (call : Call) (value : answer.AnswerValue) → next_call p ≡ Some call → fits p call value ≡ true → answer.moves value ≡ true
     → moves_of (after now p call value) + 1 ≤ moves_of p + 2 * read_by value
-moves_less now p (Read side most) (answer.Bytes bytes) next fit moved = let possible = asked_is_possible p (Read side most) next in grind (arith, common_steps)
-moves_less now p (Read side most) answer.End next fit moved = let possible = asked_is_possible p (Read side most) next in grind (arith, common_steps)
-moves_less now p (Write side) (answer.Wrote n) next fit moved = let possible = asked_is_possible p (Write side) next in grind (arith, common_steps)
-moves_less now p (Join side) answer.Joined next fit moved = let possible = asked_is_possible p (Join side) next in grind (arith, common_steps)
-moves_less now p (Shut side) answer.Shut next fit moved = let possible = asked_is_possible p (Shut side) next in grind (arith, common_steps)
-moves_less now p call value next fit moved = absurd (cc)
+moves_less now p call value next fit moved = let possible = asked_is_possible p call next in grind (arith, common_steps)
 
 -- what moves clears no flag
 pub flags_stay : (now : ℕ) (p : PairState) (call : Call) (value : answer.AnswerValue) → answer.moves value ≡ true
@@ -192,6 +187,10 @@ calls_answered now l r settled = kept_bind _ (next_call l.connection.pair) (λ c
     rw (made_is l call r) (kept_over _ _ (kept_bind _ (end_at l.kernel.ends (descriptor l.connection.ends (side_of call))) (λ old there.
     kept_map _ (end_after l.connection.pair call r old.socket) (λ socket replied.
     lighter now l r call next old socket there replied value told fit settled)))))))
+
+pub one_less : (c n : ℕ) → 0 < n → c * (n - 1) + c ≡ c * n
+one_less c zero some = absurd (omega arith)
+one_less c (suc n) some = let less : suc n - 1 ≡ n = omega arith in rw less (omega arith)
 
 pub not_so : (b : Bool) → not b ≡ true → b ≡ false
 not_so b h = grind arith

@@ -1,7 +1,7 @@
 -- A step over wires that rest, and what happens there: what the network, the kernel, the poller and the wires do.
 pub mod Ends
-pub use Rattle.interleaving.specs.{Threads.{Accept, Act, Acts, Begin, Call, Calls, Close, Connect, Deliver, Drop, Open, Poll, Register, Sweep, Thread, Tick, acts, after_act, delivers, poller_rests, posted, rests, with_thread}, Wires.{Plain, Step, Wired, batch_there, catching, cleared, closes, delay_after, fresh, happens, is_close, may_name, polls, sides_told, tells, told, wires_after}}
-pub use Rattle.kernel_model.specs.{Names.are_among, declared.accepting.Accepting.TheVariants.{Accepted, Blocked}}
+pub use Rattle.interleaving.specs.{Threads.{Act, Acts, Call, Calls, Close, Connect, Deliver, Poll, Register, Thread, acts, after_act, delivers, poller_rests, posted, rests, with_thread}, Wires.{Plain, Step, Wired, batch_there, catching, cleared, closes, delay_after, fresh, happens, is_close, may_name, polls, sides_told, tells, told, wires_after}}
+pub use Rattle.kernel_model.specs.{Names.are_among, declared.accepting.Accepting.TheVariants.Blocked}
 pub use Rattle.std.{proofs.{Common.{Vec, append-nil, slice_get, suc, unwrap_or, zero, ◌+◌, ◌-◌}, lemmas.{Bool.{eqb-true, not-true}, List.nil_from_length}}, specs.Global.Global}
 pub use Rattle.world.{proofs.Headline.Ends.Pairs.Holders.Events.Lists.has_polled, specs.declared.connection.Connection.Connection}
 pub use Ends.*
@@ -59,8 +59,6 @@ module _ (st : System) (e : List (Option Registered)) (q b : List Name) where
 
   acts_alike : (i : ℕ) (t : Thread) (act : Act) (rest : List Act) → is_apart act ≡ true
       → Alike (after_act st i t act rest) (after_act (seen_as st e q b) i t act rest)
-  acts_alike i t Register rest is = cc
-  acts_alike i t Close rest is = cc
   acts_alike i t act rest is = grind arith
 
   pub acts_apart : (i : ℕ) (t : Thread) (act : Act) (rest : List Act) (next : System) → is_apart act ≡ true → after_act st i t act rest ≡ Some next
@@ -80,14 +78,7 @@ module _ (st : System) (e : List (Option Registered)) (q b : List Name) where
   no_socket s = true
 
   steps_alike : (s : alone.Step) → no_socket s ≡ true → Alike (step st s) (step (seen_as st e q b) s)
-  steps_alike (Accept Accepted) is = grind arith
-  steps_alike (Accept reply) is = grind arith
-  steps_alike (Begin i most) is = grind arith
-  steps_alike Open is = grind arith
-  steps_alike Drop is = grind arith
-  steps_alike Sweep is = grind arith
-  steps_alike (Tick n) is = grind arith
-  steps_alike s is = cc
+  steps_alike s is = grind arith
 
   pub steps_apart : (s : alone.Step) (next : System) → no_socket s ≡ true → step st s ≡ Some next → Apart (λ x. step x s) next
   steps_apart s next is h = alike_at _ _ next h (steps_alike s is)
@@ -378,8 +369,7 @@ module _ (st : System) (wires : Side → Wire) (p : Polling) (d : Delay) (e : Li
     within_rest (Busy none few once named gone within) = Busy none few once named gone (λ m h. within m (rw left (or_right _ _ h)))
 
     same_poll : (early : Bool) (m : Name) → in_poll early (Some after) m ≡ in_poll early (Some p) m
-    same_poll true m = refl
-    same_poll false m = refl
+    same_poll early m = grind arith
 
     -- another name is coming as before
     other_coming : (m : Name) → (same m n ≡ true → p.reading m ≡ false) → coming st.kernel.queue (Some p) m ≡ true → coming st.kernel.queue (Some after) m ≡ true

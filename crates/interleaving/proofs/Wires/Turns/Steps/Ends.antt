@@ -57,8 +57,7 @@ abbrev pub open_as : ℕ → (Side → EndState) → List (Option Registered)
 open_as g f = Some (record { token = token g Client; socket = f Client }) ∷ Some (record { token = token g Target; socket = f Target }) ∷ []
 
 pub end_as : (g : ℕ) (f : Side → EndState) (side : Side) → end_at (open_as g f) (descriptor two side) ≡ Some (record { token = token g side; socket = f side })
-end_as g f Client = refl
-end_as g f Target = refl
+end_as g f side = grind arith
 
 pub on_here : {X : Type 0} (side : Side) (x : X) (f : Side → X) → on side x f side ≡ x
 on_here side x f = grind arith
@@ -67,23 +66,19 @@ pub on_same : {X : Type 0} (side : Side) (f : Side → X) (j : Side) → on side
 on_same side f j = grind arith
 
 pub open_twice : (g : ℕ) (side : Side) (x y : EndState) (f : Side → EndState) → open_as g (on side y (on side x f)) ≡ open_as g (on side y f)
-open_twice g Client x y f = refl
-open_twice g Target x y f = refl
+open_twice g side x y f = grind arith
 
 pub open_same : (g : ℕ) (side : Side) (f : Side → EndState) → open_as g (on side (f side) f) ≡ open_as g f
-open_same g Client f = refl
-open_same g Target f = refl
+open_same g side f = grind arith
 
 pub changed_at : (k : KernelState) (g : ℕ) (f : Side → EndState) (side : Side) (change : EndState → Option (Told EndState Bool)) → k.ends ≡ open_as g f
     → changed k (descriptor two side) change
     ≡ option_map (λ (t : Told EndState Bool). record k { ends = open_as g (on side t.value f); queue = reported k.queue (End (token g side)) t.told }) (change (f side))
-changed_at k g f Client change is = rw is refl
-changed_at k g f Target change is = rw is refl
+changed_at k g f side change is = grind arith
 
 pub called_at : (k : KernelState) (g : ℕ) (f : Side → EndState) (side : Side) (call : EndState → Option EndState) → k.ends ≡ open_as g f
     → kernel.called k (descriptor two side) call ≡ option_map (λ (e : EndState). record k { ends = open_as g (on side e f) }) (call (f side))
-called_at k g f Client call is = rw is refl
-called_at k g f Target call is = rw is refl
+called_at k g f side call is = grind arith
 
 -- The network
 
@@ -110,9 +105,7 @@ change_at_end k g f side Room is = changed_at k g f side new_room is
 -- what such a step has done
 pub net_back : {X Y Z : Type 0} (b : Bool) (F : X → Y) (G : Y → Z) (o : Option X) (z : Z) → option_map G (when b (option_map F o)) ≡ Some z
     → (b ≡ true) × (x : X) × (o ≡ Some x) × (z ≡ G (F x))
-net_back true F G (Some x) z h = (refl, x, refl, some_is h)
-net_back true F G None z h = cc
-net_back false F G o z h = cc
+net_back b F G o z h = grind arith
 
 pub network_here : (st : System) (g : ℕ) (f : Side → EndState) (side : Side) (c : Change) → st.ends ≡ Some two → st.kernel.ends ≡ open_as g f
     → step st (Network side c) ≡ option_map (λ (k : KernelState). record st { kernel = k }) (when (is_short c) (option_map (at_end st.kernel g f side) (effect c (f side))))
@@ -450,10 +443,9 @@ more_or a b c more h = grind arith
 
 pub way_reported : (n : Name) (t : Bool) (real q : List Name) (also : Name → Bool) → ((m : Name) → has m q ≡ true → (has m real || also m) ≡ true)
     → (m : Name) → has m (reported q n t) ≡ true → (has m (reported real n t) || also m) ≡ true
-way_reported n t real q also way m h = elim (has_reported_back m n t q h) [
-  | inl was ↦ more_or (has m real) (has m (reported real n t)) (also m) (has_reported m n t real) (way m was)
-  | inr new ↦ or_left _ (also m) (rw (new.0, new.1) (reported_has n true real refl))
-]
+way_reported n t real q also way m h =
+    let back = has_reported_back m n t q h in
+    grind (arith, way m, has_reported m n t real, reported_has n t real)
 
 pub known_reported : {o : Option ℕ} (n : Name) (t : Bool) (queue : List Name) → Named o n → AllNamed o queue → AllNamed o (reported queue n t)
 known_reported {o} n t queue here all = record { each = λ m h. elim (has_reported_back m n t queue h) [ inl was ↦ all.each m was | inr new ↦ rw new.0 here ] }
@@ -509,8 +501,7 @@ abbrev pub queue_less : System → Name → System
 queue_less st n = record st { kernel = record st.kernel { queue = without_name n st.kernel.queue } }
 
 over_guard : {X Y : Type 0} (b : Bool) (F : X → Y) (x : X) → option_map F (guard b x) ≡ guard b (F x)
-over_guard true F x = refl
-over_guard false F x = refl
+over_guard b F x = grind arith
 
 pub vanish_is : (st : System) (o : Option (ℕ × (Side → EndState))) → Shape st.ends st.kernel.ends o → (who : Reported) → step st (Vanish who)
     ≡ option_and_then (λ (n : Name). guard (has n st.kernel.queue && quiet_here st.kernel.backlog o who) (queue_less st n)) (name_here (generation_of o) who)
@@ -558,8 +549,7 @@ reports_all st e q b o shape (n ∷ names) named =
     }
 
 pub not_in : (early : Bool) (n : Name) → in_poll early None n ≡ false
-not_in true n = refl
-not_in false n = refl
+not_in early n = grind arith
 
 -- what is coming to an end is on its way
 pub coming_way : {batch : List Name} {early : Bool} {g : ℕ} {poll : Option Polling} (queue : List Name) (n : Name) → Polls batch early (Some g) poll → coming queue poll n ≡ true
