@@ -33,8 +33,7 @@ closes_on k e a b one two apart none =
 calls_on : (now : ℕ) (l : OpenConnection) (call : PairCall) (a : Registered) → next_call l.connection.pair ≡ Some call → end_at l.kernel.ends (descriptor l.connection.ends (side_of call)) ≡ Some a
     → called now l (reply.Failed Reset) ≡ None → ⊥
 unfolding called
-calls_on now l (Read side most) a next there none = let made = rw (next, there) at none in cc
-calls_on now l call a next there none = let made = rw (next, there) at none in cc
+calls_on now l call a next there none = grind arith
 
 mapped : {X Y : Type 0} (f : X → Y) (o : Option X) → option_map f o ≡ None → o ≡ None
 mapped f o none = grind arith

@@ -1,16 +1,10 @@
 -- Each slot of a server can be looked at alone.
 pub mod Steps
-use Rattle.interleaving.{proofs.Runs.run_on, specs.{Likeness.EveryInterleavingIsARun, Slots.{Accept, Acts, AllStandApart, Calls, Connect, Drop, Network, Poll, Put, Refuse, Retract, Rumour, SeesAll, SlotsStandApart, Spurious, Stop, Sweep, Tick, Vanish, answered, may, may_accept, polled, run, shared, start, step, told, unqueued, with_front}, Threads.resting}}
-use Rattle.kernel_model.specs.declared.accepting.Accepting.{Accepting, TheVariants.{Again, Blocked, Starved}}
-use Rattle.std.{proofs.{Common.{Vec, le-leb, leb-true, replicate, ◌-◌}, lemmas.{Bool.ltb-true, Option.option_and_then_some}}, specs.Global.Global}
+use Rattle.interleaving.{proofs.Runs.run_on, specs.{Likeness.EveryInterleavingIsARun, Slots.{Accept, Acts, AllStandApart, Calls, Network, Poll, Put, SeesAll, SlotsStandApart, Spurious, Sweep, Tick, Vanish, may, polled, run, shared, start, step, unqueued}, Threads.resting}}
+use Rattle.std.{proofs.{Common.{Vec, le-leb, leb-true, replicate, ◌-◌}, lemmas.Option.option_and_then_some}, specs.Global.Global}
 use denote.RawPtr.{null_ptr}
 use Steps.*
 use Rattle.world.specs.declared.event.Reported.TheVariants as reported
-
--- once a client waits, a front holds by what is on its way; the backlog may have any size then
-with_backlog : (server : Server) (b c p : ℕ) (f : Front) → nat_lt 0 b ≡ true → FrontHolds server b p f → FrontHolds server c p f
-with_backlog server b c p f some h =
-    record { listener = (let was = h.listener in grind (arith, nat_tests)); share = h.share; own = h.own }
 
 -- names as a poll gives them
 vec_of : (names : List Name) → length names ≤ 256 → (v : Vec Name Global) × (v.items ≡ names)
@@ -18,90 +12,49 @@ vec_of names few =
     let alloc : Global = record { memory = record { seal = tt } } in
     (record { ptr = null_ptr; len = length names; cap = length names; alloc = alloc; items = names; ok = (refl, omega arith); small = omega arith }, refl)
 
+kept_of : {X : Type 0} {P : X → Type 0} (o : Option X) → ((x : X) → o ≡ Some x → P x) → Kept P o
+kept_of None each = kept_none
+kept_of (Some x) each = kept_some (each x refl)
+
+-- Steps at no slot that change what pollers know and have
+
+abbrev is_shared : Step → Bool
+is_shared (Poll p reports) = false
+is_shared (Put i s) = false
+is_shared x = true
+
+module _ (m n : Many) where
+  shared_stays : (x : Step) → is_shared x ≡ true → shared m x ≡ Some n → (i s : ℕ) → (n.server ≡ m.server) × (n.places ≡ m.places) × (n.tickets ≡ m.tickets) × (n.busy_at ≡ m.busy_at)
+      × (names_at s (n.fronts i).batch ≡ names_at s (m.fronts i).batch)
+  shared_stays x is made i s = grind (arith, nat_tests)
+
+  shared_holds : (x : Step) → is_shared x ≡ true → shared m x ≡ Some n → (i : ℕ) → FrontHolds m.server m.backlog i (m.fronts i)
+      → FrontHolds n.server n.backlog i (n.fronts i)
+  shared_holds (Accept p Accepted) is made i holds =
+      let was = holds.listener in
+      record { listener = grind (arith, nat_tests); share = grind (arith, nat_tests); own = grind (arith, nat_tests) }
+  shared_holds x is made i holds =
+      record { listener = grind (arith, nat_tests); share = grind (arith, nat_tests); own = grind (arith, nat_tests) }
+
 module _ (m : Many) (between : Between m) where
   -- a step that is at no slot
   quiet : (x : Step) (n : Many) → n.server ≡ m.server → ((s : ℕ) → Sees m s x []) → ((s : ℕ) → slot_of n s ≡ slot_of m s) → Apart n → FrontsHold n → Next m x n
   quiet x n server is same apart fronts = record { server = server; each = λ s. record { own = []; sees = is s; leads = ap Some (sym (same s)) }; apart = apart; fronts = fronts }
 
-  -- it changes one front and the backlog
-  front_next : (x : Step) (p : ℕ) (new : Front) (b : ℕ) → ((s : ℕ) → Sees m s x []) → ((s : ℕ) → names_at s new.batch ≡ names_at s (m.fronts p).batch)
-      → ((i : ℕ) → FrontHolds m.server b i (m.fronts i)) → FrontHolds m.server b p new
-      → Next m x (record (with_front m p new) { backlog = b })
-  front_next x p new b is names others front =
-      let n : Many = record (with_front m p new) { backlog = b } in
-      quiet x n refl is (λ s. framed m n s refl refl (same_names m.fronts p new s (m.server.owner s) (λ e. names s)) refl) between.apart
-      (λ i. at_each (FrontHolds m.server b) m.fronts p new i (others i) (λ e. front))
-
-  -- it changes what one front knows of the listener
-  hears_of : (x : Step) (p : ℕ) (listens flag armed reported : Bool) → ((s : ℕ) → Sees m s x []) → let f = m.fronts p in
-      ((not listens || flag) || ((armed && m.backlog == 0) || (reported || list_any is_listener f.batch))) ≡ true
-      → Next m x (with_front m p (record f { listens = listens; flag = flag; armed = armed; reported = reported }))
-  hears_of x p listens flag armed reported is holds = let f = m.fronts p in
-      front_next x p (record f { listens = listens; flag = flag; armed = armed; reported = reported }) m.backlog is (λ s. refl) between.fronts
-      (record { listener = holds; share = (between.fronts p).share; own = (between.fronts p).own })
-
-  connects : Kept (Next m Connect) (shared m Connect)
-  connects = kept_some (quiet Connect (record m { backlog = m.backlog + 1; fronts = λ p. told (m.fronts p) }) refl (λ s. refl) (λ s. refl) between.apart (λ p. let f = m.fronts p in
-      record {
-        listener = let was = (between.fronts p).listener in grind arith;
-        share = (between.fronts p).share;
-        own = (between.fronts p).own;
-      }))
-
-  rumours : (p : ℕ) → Kept (Next m (Rumour p)) (shared m (Rumour p))
-  rumours p = let f = m.fronts p in
-      kept_some (hears_of (Rumour p) p f.listens f.flag f.armed true (λ s. refl) (grind arith))
-
-  retracts : (p : ℕ) → Kept (Next m (Retract p)) (shared m (Retract p))
-  retracts p = let f = m.fronts p in
-      kept_guard _ _ (λ h.
-      let none : (m.backlog == 0) ≡ true = second_so _ _ h in
-      hears_of (Retract p) p f.listens f.flag true false (λ s. refl) (rw none (grind arith)))
-
-  drops : (p : ℕ) → Kept (Next m (Drop p)) (shared m (Drop p))
-  drops p = let f = m.fronts p in
-      kept_guard _ _ (λ h.
-      let least : f.opened + count f.accepted ≤ m.server.share p = (between.fronts p).share in
-      front_next (Drop p) p (record f { accepted = false }) m.backlog (λ s. refl) (λ s. refl) between.fronts
-      (record { listener = (between.fronts p).listener; share = omega arith; own = (between.fronts p).own }))
-
-  stops : (p : ℕ) → Kept (Next m (Stop p)) (shared m (Stop p))
-  stops p = kept_some (hears_of (Stop p) p false (m.fronts p).flag false false (λ s. refl) refl)
-
-  refuses : Kept (Next m Refuse) (shared m Refuse)
-  refuses = kept_some (quiet Refuse (record m { backlog = 0 }) refl (λ s. refl) (λ s. refl) between.apart (λ p. let f = m.fronts p in
-      let h = between.fronts p in
-      record { listener = let was = h.listener in grind arith; share = h.share; own = h.own }))
-
-  -- a report of the listener or of the waker
-  hears : (p : ℕ) (r : Report) (rest : List Report) (flag : Bool) → (m.fronts p).batch ≡ r ∷ rest → ((s : ℕ) → names_at s (r ∷ rest) ≡ names_at s rest)
-      → list_all (is_own m.server.owner p) rest ≡ true → ((s : ℕ) → Sees m s (Deliver p) [])
-      → ((not (m.fronts p).listens || flag) || (((m.fronts p).armed && m.backlog == 0) || ((m.fronts p).reported || list_any is_listener rest))) ≡ true
-      → Next m (Deliver p) (with_front m p (record (m.fronts p) { flag = flag; batch = rest }))
-  hears p r rest flag is names own at_none holds =
-      front_next (Deliver p) p (record (m.fronts p) { flag = flag; batch = rest }) m.backlog at_none (λ s. rw is (sym (names s))) between.fronts
-      (record { listener = holds; share = (between.fronts p).share; own = own })
+  shares : (x : Step) → is_shared x ≡ true → ((s : ℕ) → Sees m s x []) → Kept (Next m x) (shared m x)
+  shares x is sees = kept_of (shared m x) (λ n made.
+      let same = shared_stays m n x is made in
+      let server = (same 0 0).0 in
+      let place = λ (s : ℕ). ap (λ (f : ℕ → System). f s) (same 0 0).1 in
+      let busy = λ (i : ℕ). ap (λ (f : ℕ → ℕ). f i) (same 0 0).3 in
+      quiet x n server sees
+      (λ s. framed m n s server (place s) (same (m.server.owner s) s).4 (ap (tickets_at s) (same 0 0).2))
+      (λ i s some other. rw (server, place s) (between.apart i s (rw server at some) (λ e. other (e ∙ sym (busy i)))))
+      (λ i. shared_holds m n x is made i (between.fronts i)))
 
   delivers : (p : ℕ) (batch : List Report) → (m.fronts p).batch ≡ batch → Kept (Next m (Deliver p)) (makes m (Deliver p) (delivering p batch))
-  delivers p [] is = rw is kept_none
-  delivers p (Listener ∷ rest) is = rw is (kept_some (hears p Listener rest true is (λ s. refl) (rw is at (between.fronts p).own) (λ s. rw is refl) (grind arith)))
-  delivers p (Waker ∷ rest) is = rw is (kept_some (hears p Waker rest (m.fronts p).flag is (λ s. refl) (rw is at (between.fronts p).own) (λ s. rw is refl) (rw is at (between.fronts p).listener)))
   delivers p (Of s name ∷ rest) is = delivers_end m between p s name rest is
-
-  answers : (p : ℕ) (reply : Accepting) → may_accept m.server p (m.fronts p) ≡ true
-      → Kept (Next m (Accept p reply)) (answered m p reply)
-  answers p Accepted may =
-      let f = m.fronts p in
-      let less : f.opened < m.server.share p = ltb-true _ _ (second_so _ _ (second_so _ _ may)) in
-      let flag_up : f.flag ≡ true = second_so _ _ (and_parts _ _ may).0 in
-      kept_guard _ _ (λ some. front_next (Accept p Accepted) p (record f { accepted = true }) (m.backlog - 1) (λ s. refl) (λ s. refl)
-      (λ i. with_backlog m.server m.backlog (m.backlog - 1) i (m.fronts i) some (between.fronts i))
-      (record { listener = rw flag_up (grind arith); share = omega arith; own = (between.fronts p).own }))
-  answers p Blocked may = let f = m.fronts p in
-      kept_guard _ _ (λ none. hears_of (Accept p Blocked) p f.listens false true f.reported (λ s. refl)
-      (rw none (grind arith)))
-  answers p Again may = kept_some (quiet (Accept p Again) m refl (λ s. refl) (λ s. refl) between.apart between.fronts)
-  answers p Starved may = kept_some (quiet (Accept p Starved) m refl (λ s. refl) (λ s. refl) between.apart between.fronts)
+  delivers p batch is = shares (Deliver p) refl (λ s. rw is refl)
 
   puts : (i s : ℕ) → Kept (Next m (Put i s)) (shared m (Put i s))
   puts i s = kept_map _ _ (λ c is.
@@ -161,11 +114,8 @@ module _ (m : Many) (between : Between m) where
           server = refl;
           each = λ s. polls_at s (cases_eq (m.server.owner s) p);
           apart = λ i s some other. rw (same_threads (m.server.owner s == p) (m.places s) (names_at s reports)) (between.apart i s some other);
-          fronts = λ i. at_each (FrontHolds m.server m.backlog) m.fronts p _ i (between.fronts i) (λ e. record {
-            listener = grind arith;
-            share = (between.fronts p).share;
-            own = own_reports m p reports asked;
-          });
+          fronts = λ i. at_each (FrontHolds m.server m.backlog) m.fronts p _ i (between.fronts i)
+              (λ e. record { listener = grind arith; share = (between.fronts p).share; own = own_reports m p reports asked });
         }
 
   polls : (p : ℕ) (reports : List Report) → rests m p ≡ true → Kept (Next m (Poll p reports)) (shared m (Poll p reports))
@@ -181,21 +131,15 @@ module _ (m : Many) (between : Between m) where
   next (Network s side change) = by_still m between (Network s side change) _ (λ t own e. e) (λ q. leaves (slot_of m s) q (alone.Network side change) refl refl refl)
   next (Spurious s side) = by_still m between (Spurious s side) _ (λ t own e. e) (λ q. leaves (slot_of m s) q (alone.Spurious (reported.End 0 side)) refl refl refl)
   next (Vanish s side) = by_still m between (Vanish s side) _ (λ t own e. e) (λ q. leaves (slot_of m s) q (alone.Vanish (reported.End 0 side)) refl refl refl)
-  next Connect = connects
-  next (Rumour p) = rumours p
-  next (Retract p) = retracts p
   next (Poll p reports) = kept_when _ _ (λ rested. polls p reports rested)
   next (Deliver p) = kept_when _ _ (λ rested. delivers p (m.fronts p).batch refl)
   next (Sweep p s) = kept_when (may m (Sweep p s)) _ (λ h. by_still m between (Sweep p s) _ (λ t own e. e) (λ q. leaves (slot_of m s) q alone.Sweep refl refl refl))
-  next (Accept p reply) = kept_when _ _ (λ rested. kept_when _ _ (λ h. answers p reply h))
-  next Refuse = refuses
-  next (Stop p) = kept_when _ _ (λ rested. stops p)
-  next (Drop p) = kept_when _ _ (λ rested. drops p)
   next (Open p s) = kept_when _ _ (λ h. opens m between p s h)
   next (Begin i from most) = kept_when _ _ (λ rested. begins m between i from most rested (first_of (suits i from) m.tickets) refl)
   next (Put i s) = puts i s
   next (Acts i) = by_thread m between (Acts i) i _ (λ t own e. e) (λ q. leaves (slot_of m (m.busy_at i)) q (alone.Acts (rank_at m (m.busy_at i) i)) refl refl refl)
   next (Calls i r) = by_thread m between (Calls i r) i _ (λ t own e. e) (λ q. leaves (slot_of m (m.busy_at i)) q (alone.Calls (rank_at m (m.busy_at i) i) r) refl refl refl)
+  next x = kept_when (may m x) (shared m x) (λ rested. shares x refl (λ s. refl))
 
 -- What a slot has seen
 

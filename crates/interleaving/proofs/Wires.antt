@@ -20,12 +20,8 @@ free_none st w (IsHalfOpen t c workers is half) turns (suc n) free some =
 
 -- A list of steps
 
-record Went (w : Wired) (d : Delay) (e : List (Option Registered)) (q : List Name) (steps : List wired.Step) (to : Wired) : Type 0 where
-  there : List (Option Registered)
-  queue : List Name
-  leads : run (seen_as w.system e q (batch_there w.poll d.early w.system.batch)) (happened w d steps)
-      ≡ Some (seen_as to.system there queue (batch_there to.poll (delay w d steps).early to.system.batch))
-  joined : Joined (rim to.system) to.wires to.poll (delay w d steps) there queue
+abbrev Went : Wired → Delay → List (Option Registered) → List Name → List wired.Step → Wired → Type 0
+Went w d e q steps to = Led (seen_as w.system e q (batch_there w.poll d.early w.system.batch)) (happened w d steps) to (delay w d steps)
 
 -- a step, and then the rest
 one_more : (x : wired.Step) (steps : List wired.Step) (w v to : Wired) (d : Delay) (e : List (Option Registered)) (q : List Name) → Joined (rim w.system) w.wires w.poll d e q → wired.step w x ≡ Some v
@@ -37,12 +33,8 @@ one_more x steps w v to d e q j is led more =
     let rest = happened v (delay_after w d x) steps in
     let shown : happened w d (x ∷ steps) ≡ own ++ rest = rw is (sym (append_assoc (comes d.late (catching w x)) (happens w d x) rest)) in
     let last : delay w d (x ∷ steps) ≡ delay v (delay_after w d x) steps = rw is refl in
-    record {
-      there = more.there;
-      queue = more.queue;
-      leads = rw (shown, last) (run_on own rest (seen_as w.system e q b) _ led.leads ∙ more.leads);
-      joined = rw last more.joined;
-    }
+    let leads = run_on own rest (seen_as w.system e q b) _ led.leads ∙ more.leads in
+    record { there = more.there; queue = more.queue; leads = rw (shown, last) leads; joined = rw last more.joined }
 
 module _ (core : CoreLaws) (law : EveryInterleavingIsARun) (l : Limits) (one : l.slots ≡ 1) where
   went : (steps : List wired.Step) (w to : Wired) (d : Delay) (e : List (Option Registered)) (q : List Name) → Joined (rim w.system) w.wires w.poll d e q

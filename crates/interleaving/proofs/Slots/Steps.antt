@@ -1,6 +1,6 @@
 -- What a step of a server is at each slot, and what stays true by it.
 pub mod Deeds
-pub use Rattle.interleaving.specs.{Slots.{Begin, Deed, Deliver, Front, Listener, Many, Of, Open, Report, Sees, Server, Step, Taken, Ticket, Waker, are_queued, besides, deed, delivering, first_of, in_hand, is_listener, makes, names_at, one_slot, rank, rank_at, rests, set, slot_of, steps_at, suits, tickets_at, written}, Threads.rests_at}
+pub use Rattle.interleaving.specs.{Slots.{Begin, Deed, Deliver, Front, Many, Of, Open, Report, Sees, Server, Step, Taken, Ticket, are_queued, besides, deed, delivering, first_of, in_hand, is_listener, makes, names_at, one_slot, rank, rank_at, rests, set, slot_of, steps_at, suits, tickets_at, written}, Threads.rests_at}
 pub use Rattle.kernel_model.specs.Names.{are_among, are_distinct}
 pub use Rattle.readiness.proofs.Runs.{mapped}
 pub use Rattle.token.specs.declared.name.Name.{Name}

@@ -135,7 +135,7 @@ module _ (w : Wired) (d : Delay) (e : List (Option Registered)) (q : List Name) 
         rw (is, old) (led (None ∷ None ∷ []) (without_name target (without_name client now.queue))
         (rw as_seen (run_on (comes d.late (Client ∷ Target ∷ [])) _ _ _ c.leads
         ∙ (run_on (polls d.early w.poll) (Acts i ∷ []) _ last now.leads ∙ ap (option_and_then (λ (x : System). Some x)) does)))
-        (Away refl refl (inr refl) (λ side. both_none side))
+        (Away refl refl (inr refl) (λ side. grind arith))
         (record {
           each = λ m h. (let a = has_less m target (without_name client here.kernel.queue) h in
               let b = has_less m client here.kernel.queue a.0 in gone_named g m (named.each m b.0) b.1 a.1);
@@ -148,10 +148,6 @@ module _ (w : Wired) (d : Delay) (e : List (Option Registered)) (q : List Name) 
         let way = j.on_way m in0 in
         let was : has m here.kernel.queue ≡ true = grind (arith, less, way) in
         or_left _ _ (less_has m target (without_name client here.kernel.queue) (less_has m client here.kernel.queue was b.1) a.1)))
-      where
-        both_none : (side : Side) → on Target [] (on Client [] d.late) side ≡ []
-        both_none Client = refl
-        both_none Target = refl
 
 -- Calls
 
