@@ -1,6 +1,6 @@
 -- What an end of a queue has put, and after it what is in hand.
 use Rattle.std.{proofs.{Common.{◌≡◌, ℕ, List, [], ◌∷◌, ◌++◌, sym, refl, ◌∙◌, append_assoc}, lemmas.List.{map-append, append-nil}}, specs.Prelude.map}
-use Rattle.ready.specs.{declared.{history.History.History, ticket.Ticket.Ticket}, Steps.{PutOne, EndState}}
+use Rattle.ready.specs.{declared.{history.History.History, ticket.Ticket.Ticket}, Steps.{EndState, PutOne, QueueEnd}}
 use Rattle.common.specs.{declared.shared.Own.Own, Hands.HandState, Outgoing.{outgoing, Inserted, TookNothing, tickets_out, slots_out}}
 
 module _ {T : Type 0} where
@@ -25,7 +25,7 @@ module _ {T : Type 0} where
   }
 
 -- the queue refused a ticket, which is the last in hand now
-pub refused_ticket : (own : Own) (ready : EndState Ticket) (hand : HandState) (item ticket : Ticket) →
+pub refused_ticket : (own : Own) (ready : QueueEnd Ticket) (hand : HandState) (item ticket : Ticket) →
     ready ≡ own.ready → item ≡ ticket → hand ≡ record own.hand { tickets = own.hand.tickets ++ item ∷ [] } →
     Inserted ticket (tickets_out own) (outgoing ready.history hand.tickets)
 refused_ticket own ready hand item ticket same is kept =

@@ -1,7 +1,7 @@
 -- What a thread had to put into a queue so far: what its end of the queue has put, and then what is in hand for that
 -- queue. While this list stays as it is, nothing of it is lost, doubled or moved.
 use Rattle.std.specs.Prelude.{◌≡◌, ◌⊎◌, ℕ, List, [], ◌∷◌, ◌++◌, drop, map}
-use Rattle.ready.specs.{declared.{history.History.History, ticket.Ticket.Ticket}, Steps.{EndState, PutLast, HeldOnce}}
+use Rattle.ready.specs.{declared.{history.History.History, ticket.Ticket.Ticket}, Steps.PutLast}
 use Rattle.common.specs.{Hands.HandState, declared.shared.Own.Own}
 
 module _ {T : Type 0} where
@@ -15,10 +15,6 @@ module _ {T : Type 0} where
     pub after : List T
     pub was : old ≡ before ++ after
     pub is : new ≡ before ++ item ∷ after
-
-  -- nothing is left in hand for a queue, unless the queue was full at one moment of the call
-  abbrev pub PutAll : EndState T → List T → Type 0
-  PutAll end left = (left ≡ []) ⊎ HeldOnce end.capacity end.history
 
 -- the tickets that a thread had to put so far, in order
 abbrev pub tickets_out : Own → List Ticket

@@ -19,7 +19,7 @@ pub trait Acts {
     ghost use Rattle.std.specs.Prelude.{◌≡◌, ◌↔◌, ◌<◌, ℕ, [], ◌∷◌, length, slice_set, IfErr, OnOk, OnErr};
     ghost use Rattle.claims.specs.{Seats.{Holds, Adds}, Calls.{PostChange, ClaimChange, ReleaseChange, AdoptChange}};
     ghost use Rattle.common.specs.Posts.{IsWorn};
-    ghost use Rattle.ready.specs.Steps.{PutOne, HeldOnce};
+    ghost use Rattle.ready.specs.Steps.{IsStill, PutOne};
     ghost use Rattle.claims.specs.declared.view.Exchange.TheVariants as exchange;
     ghost use Rattle.common.specs.Acts as act;
 
@@ -96,9 +96,8 @@ pub trait Acts {
         ensures made { made act.PutTicket ticket.slot self.old self.new }
         ensures put { OnOk result (PutOne ready.old.history ticket ready.new.history) }
         ensures given_back { IfErr result (λ full. full.0 ≡ ticket) }
-        ensures full { OnErr result (HeldOnce ready.old.capacity ready.old.history) }
         ensures unchanged { OnErr result (ready.new ≡ ready.old) }
-        ensures capacity { ready.new.capacity ≡ ready.old.capacity };
+        ensures same { IsStill ready.old ready.new };
 
     /// [`FreeQueue::give`].
     fn give<R: Wait>(
@@ -110,7 +109,6 @@ pub trait Acts {
         ensures made { made act.Give slot self.old self.new }
         ensures put { OnOk result (PutOne free.old.history slot free.new.history) }
         ensures given_back { IfErr result (λ full. full.0 ≡ slot) }
-        ensures full { OnErr result (HeldOnce free.old.capacity free.old.history) }
         ensures unchanged { OnErr result (free.new ≡ free.old) }
         ensures capacity { free.new.capacity ≡ free.old.capacity };
 }

@@ -1,6 +1,6 @@
 //! What a thread has in hand, and how it puts that into the queues.
-ghost use Rattle.std.specs.Prelude.{◌≡◌, ◌+◌, ◌<◌, ◌≤◌, ◌↔◌, [], ◌∷◌, ◌++◌, length, drop, slice_get, IsTrue, IsSome, IfOk};
-ghost use Rattle.common.specs.{Hands.{empty_hand, ticket_room, HasRoom, Shrank}, Outgoing.{outgoing, PutAll}};
+ghost use Rattle.std.specs.Prelude.{◌≡◌, ◌+◌, ◌<◌, ◌≤◌, ◌↔◌, [], ◌∷◌, ◌++◌, length, drop, slice_get, IsTrue, IsSome, IfOk, OnOk};
+ghost use Rattle.common.specs.{Hands.{empty_hand, ticket_room, HasRoom, Shrank}, Outgoing.outgoing};
 
 use circular_buffer::HeapCircularBuffer;
 use ready::{FreeQueue, Full, ReadyQueue, Ticket};
@@ -125,40 +125,46 @@ impl Hand {
     }
 }
 
-/// Puts the tickets in hand, oldest first. One that is refused stays in hand with all after it.
-pub fn put_tickets<R: Wait>(rt: &R, ready: &mut ReadyQueue, hand: &mut Hand)
+/// Puts the tickets in hand, oldest first. If the queue was full, what it refused stays in hand with all after it.
+pub fn put_tickets<R: Wait>(
+    rt: &R,
+    ready: &mut ReadyQueue,
+    hand: &mut Hand,
+) -> Result<(), Full<Ticket>>
     ensures tickets { outgoing ready.new.history hand.new.tickets ≡ outgoing ready.old.history hand.old.tickets }
     ensures took { ready.new.history.taken ≡ ready.old.history.taken }
-    ensures all { PutAll ready.new hand.new.tickets }
+    ensures all { OnOk result (hand.new.tickets ≡ []) }
     ensures slots { hand.new.slots ≡ hand.old.slots }
     ensures shrank { Shrank hand.old hand.new }
 {
     for _ticket in 0..hand.tickets() {
         let Some(ticket) = hand.take_ticket() else {
-            return;
+            return Ok(());
         };
-        if let Err(Full(ticket)) = ready.put(rt, ticket) {
-            hand.return_ticket(ticket);
-            return;
+        if let Err(full) = ready.put(rt, ticket) {
+            hand.return_ticket(full.0);
+            return Err(full);
         }
     }
+    Ok(())
 }
 
-/// Gives back the slots in hand, oldest first. One that is refused stays in hand with all after it.
-pub fn give_slots<R: Wait>(rt: &R, free: &mut FreeQueue, hand: &mut Hand)
+/// Gives back the slots in hand, oldest first. If the queue was full, what it refused stays in hand with all after it.
+pub fn give_slots<R: Wait>(rt: &R, free: &mut FreeQueue, hand: &mut Hand) -> Result<(), Full<usize>>
     ensures slots { outgoing free.new.history hand.new.slots ≡ outgoing free.old.history hand.old.slots }
     ensures took { free.new.history.taken ≡ free.old.history.taken }
-    ensures all { PutAll free.new hand.new.slots }
+    ensures all { OnOk result (hand.new.slots ≡ []) }
     ensures tickets { hand.new.tickets ≡ hand.old.tickets }
     ensures shrank { Shrank hand.old hand.new }
 {
     for _slot in 0..hand.slots() {
         let Some(slot) = hand.take_slot() else {
-            return;
+            return Ok(());
         };
-        if let Err(Full(slot)) = free.give(rt, slot) {
-            hand.return_slot(slot);
-            return;
+        if let Err(full) = free.give(rt, slot) {
+            hand.return_slot(full.0);
+            return Err(full);
         }
     }
+    Ok(())
 }

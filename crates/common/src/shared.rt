@@ -1,4 +1,4 @@
-ghost use Rattle.std.specs.Prelude.{◌≡◌, ◌≤◌, IfOk, IfSome};
+ghost use Rattle.std.specs.Prelude.{◌≡◌, ◌≤◌, [], ◌∷◌, ◌++◌, IfOk, IfSome};
 ghost use Rattle.claims.specs.Seats.{fresh_seat};
 ghost use Rattle.common.specs.{Hands.empty_hand, Posts.AreFresh, Told.{ended_by, moved_by}};
 
@@ -173,6 +173,7 @@ impl Parts {
         ensures left { AreFresh shared.now.claims self.new.seats.items }
         ensures next { IfOk result (λ next. IfSome next (λ own. own.seat ≡ fresh_seat shared.now.claims)) }
         ensures hand { IfOk result (λ next. IfSome next (λ own. own.hand ≡ empty_hand capacity)) }
+        ensures ready { IfOk result (λ next. IfSome next (λ own. self.old.ready.items ≡ self.new.ready.items ++ own.ready ∷ [])) }
         ensures free { IfOk result (λ next. IfSome next (λ own. own.free ≡ free)) }
     {
         let (hand, buffer) = hand_and_buffer(alloc, capacity)?;
@@ -192,6 +193,7 @@ impl Parts {
         requires { AreFresh _claims.now self.old.seats.items }
         ensures left { AreFresh _claims.now self.new.seats.items }
         ensures next { IfSome result (λ next. next.0 ≡ fresh_seat _claims.now) }
+        ensures ready { IfSome result (λ next. self.old.ready.items ≡ self.new.ready.items ++ next.1 ∷ []) }
     {
         let seat = self.seats.pop()?;
         let ready = self.ready.pop()?;

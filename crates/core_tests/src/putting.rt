@@ -16,8 +16,8 @@ fn keeps_the_second(rt: &impl Wait, end: &mut ReadyQueue, mut hand: Hand) -> boo
             });
         }
     }
-    put_tickets(rt, end, &mut hand);
-    hand.tickets() == 1
+    put_tickets(rt, end, &mut hand).is_err()
+        && hand.tickets() == 1
         && hand.take_ticket()
             == Some(Ticket {
                 slot: 4,

@@ -43,8 +43,8 @@ fn note(taker: &mut Taker, ticket: Ticket) {
 fn take_all(rt: &impl Wait, taker: &mut Taker) {
     for _ in rt.forever() {
         match taker.end.take(rt) {
-            Some(ticket) => note(taker, ticket),
-            None => break,
+            Ok(ticket) => note(taker, ticket),
+            Err(_) => break,
         }
     }
 }

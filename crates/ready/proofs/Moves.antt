@@ -1,8 +1,8 @@
 -- Each call of an end keeps the queue rule: one end's list of places and items, and the sums over all ends, when one
 -- entry is added.
 use Rattle.std.{proofs.{Common.{true, false, true≢false, ◌≡◌, ℕ, zero, suc, ◌+◌, ◌-◌, ◌<◌, ◌≤◌, ◌==◌, if◌then◌else◌, replicate, List, [], ◌∷◌, ◌++◌, length, get_or, set, refl, sym, ap, ◌∙◌, append_assoc, length-append, length-set, arith}, lemmas.List.{length_push, replicate-append-replicate, FromFn.{length-map-range_with_len, map-range_with_len_more}, Elements.{All-push, All-set}, Quantifiers.all_pairs_push, Sums.{sum_by_push, sum_by-set}}}, specs.List.{sum_by, All}}
-use Rattle.crossbeam_queue.{proofs.Lists.{at_longer, at_last}, specs.Fifo.{Pushes, Pops, Forks, Learns}}
-use Rattle.ready.specs.{declared.history.History.History, Rule.{once_below, times, Fits, MakeUp, FirstPutAll, QueueRule}, Steps.{EndState, opener, blank, among_others, after_put, after_take, Saw, HeldOnce, PutOne, TookOne, in_order}}
+use Rattle.crossbeam_queue.{proofs.Lists.{at_longer, at_last}, specs.Fifo.{Held, Pushes, Pops, Forks, Learns}}
+use Rattle.ready.specs.{declared.history.History.History, Rule.{once_below, times, Fits, MakeUp, FirstPutAll, QueueRule}, Steps.{EndState, opener, blank, among_others, after_put, after_take, Saw, PutOne, TookOne, in_order}}
 use mathlib.Core.Option.{some, some-injective, some-ne-none}
 use lib.ListN.{get_elem?}
 
@@ -176,13 +176,13 @@ next_slot first n old new is step =
     rw (step.put, place, is, map-range_with_len_more {X = ℕ × ℕ} (λ (place : ℕ). (place, first + place)) 0 n n (omega arith))
 
 -- and the queue is not full before as many puts as it can hold
-pub has_room : (capacity first n : ℕ) (h : History ℕ) → h ≡ filling first n → n < capacity → HeldOnce capacity h → ⊥
+pub has_room : (capacity first n : ℕ) (h : History ℕ) → h ≡ filling first n → n < capacity → Held capacity (Saw h) → ⊥
 has_room capacity first n h is few full =
-    let saw = full.saw in
+    let saw = full.2 in
     let has = alone_put _ saw.views saw.end_number h saw.mine saw.rule.alone (ap (λ (h : History ℕ). h.alone) is) in
     let puts = ap (λ (h : History ℕ). length h.put) is ∙ length-in_order first n in
-    let count = length-append saw.rule.gone full.items in
-    let held = full.held in omega arith
+    let count = length-append saw.rule.gone full.0 in
+    let held = full.1 in omega arith
 
 pub one_end_more : (first next : EndState ℕ) (k : ℕ) → 1 ≤ k → (first ∷ replicate (k - 1) next) ++ next ∷ [] ≡ first ∷ replicate (k + 1 - 1) next
 one_end_more first next k some_end = ap (λ l. first ∷ l) (replicate-append-replicate (k - 1) 1 next ∙ ap (λ n. replicate n next) (omega arith))

@@ -1,6 +1,7 @@
 -- What a call shows the end that made it. No clause can name what other threads do. So the call shows some state that
 -- meets the rule and has the end's own history.
-use Rattle.std.specs.{Prelude.{◌≡◌, ℕ, ◌+◌, ◌^◌, ◌==◌, Bool, not, bit_and, true, false, List, [], ◌∷◌, ◌++◌, length, map, slice_set}, List.range_with_len}
+use Rattle.std.specs.{Prelude.{◌≡◌, ℕ, ◌+◌, ◌^◌, ◌==◌, Bool, not, bit_and, true, false, List, [], ◌∷◌, ◌++◌, length, map, replicate, slice_set}, List.range_with_len}
+use Rattle.atomic_table.specs.Seated.{TableId}
 use Rattle.ready.specs.{declared.history.History.History, Rule.QueueRule}
 use mathlib.Core.Option.{some}
 use lib.ListN.{get_elem?}
@@ -10,7 +11,25 @@ pub record EndState (T : Type 0) : Type 0 where
   pub capacity : ℕ
   pub history : History T
 
+-- the same, and which queue it is an end of
+pub record QueueEnd (T : Type 0) : Type 0 where
+  pub queue : TableId
+  pub capacity : ℕ
+  pub history : History T
+
+-- an end's look at a queue: which queue, and what the end had put and taken
+pub record Look (T : Type 0) : Type 0 where
+  pub queue : TableId
+  pub history : History T
+
 module _ {T : Type 0} where
+  abbrev pub look_of : QueueEnd T → Look T
+  look_of end = record { queue = end.queue; history = end.history }
+
+  -- it is an end of the same queue
+  abbrev pub IsStill : QueueEnd T → QueueEnd T → Type 0
+  IsStill old new = (new.queue ≡ old.queue) × (new.capacity ≡ old.capacity)
+
   -- the history of an end that has done nothing yet
   abbrev pub blank : History T
   blank = record { alone = false; put = []; taken = [] }
@@ -33,8 +52,15 @@ module _ {T : Type 0} where
   abbrev pub unused : ℕ → EndState T
   unused capacity = record { capacity = capacity; history = blank }
 
-  abbrev pub first_of : ℕ → EndState T
-  first_of capacity = record { capacity = capacity; history = opener }
+  abbrev pub first_of : TableId → ℕ → QueueEnd T
+  first_of queue capacity = record { queue = queue; capacity = capacity; history = opener }
+
+  abbrev pub new_end : TableId → ℕ → QueueEnd T
+  new_end queue capacity = record { queue = queue; capacity = capacity; history = blank }
+
+  -- this many ends of one queue, for this many items, which have put and taken nothing
+  abbrev pub AreNew : ℕ → ℕ → List (QueueEnd T) → Type 0
+  AreNew ends capacity all = (queue : TableId) × (all ≡ replicate ends (new_end queue capacity))
 
   -- some state that meets the rule has these items in the queue, and this history of the end
   pub record Saw (history : History T) (items : List T) : Type 0 where
@@ -42,12 +68,6 @@ module _ {T : Type 0} where
     pub end_number : ℕ
     pub mine : get_elem? views end_number ≡ some history
     pub rule : QueueRule items views
-
-  -- some lawful state with this history held this many items
-  pub record HeldOnce (count : ℕ) (history : History T) : Type 0 where
-    pub items : List T
-    pub held : length items ≡ count
-    pub saw : Saw history items
 
   -- the item joined at the back, and the end's history has its place
   pub record PutOne (old : History T) (item : T) (new : History T) : Type 0 where

@@ -1,11 +1,12 @@
 // One end of the ready queue: what it keeps, and the steps whose clauses name that.
-ghost use Rattle.std.specs.Prelude.{◌≡◌, ◌<◌, ◌↔◌, IfOk, OnOk, IfErr, OnErr, IsNone, IsTrue, true, false};
-ghost use Rattle.ready.specs.Steps.{unused, HeldOnce, PutOne, TookOne};
+ghost use Rattle.std.specs.Prelude.{◌≡◌, ◌↔◌, IfOk, OnOk, IfErr, OnErr, IsNone, IsTrue, true, false};
+ghost use Rattle.ready.specs.Steps.{look_of, new_end, IsStill, PutOne, TookOne};
 
-use crate::idle::IdleEnds;
+use crate::idle::{EndNumber, IdleEnds};
+use crate::moment::{Empty, Full};
 use crate::rule::LineEnd;
 use crate::steps::{Drained, Put, Spent};
-use crate::ticket::{Full, Ticket};
+use crate::ticket::Ticket;
 use std::alloc::AllocError;
 use std::sync::{Arc, Wait};
 
@@ -13,10 +14,9 @@ use std::sync::{Arc, Wait};
 pub(crate) struct End {
     pub(crate) ends: Arc<IdleEnds>,
     pub(crate) line: LineEnd<Ticket>,
-    number: usize,
+    number: EndNumber,
     // The last `take` gave a ticket, and nothing has been put since.
     comes_back: bool,
-    ghost few: { number < 32 },
 }
 
 impl End {
@@ -24,11 +24,11 @@ impl End {
     pub(crate) fn another(
         ends: &Arc<IdleEnds>,
         first: &mut LineEnd<Ticket>,
-        number: usize,
+        number: EndNumber,
     ) -> Result<End, AllocError>
-        requires { number < 32 }
-        ensures same { first.new.capacity ≡ first.old.capacity }
-        ensures new { IfOk result (λ end. (end.line ≡ unused first.old.capacity) × (end.comes_back ≡ false)) }
+        ensures same { IsStill first.old first.new }
+        ensures new { IfOk result (λ end. (end.line ≡ new_end first.old.queue first.old.capacity)
+            × (end.comes_back ≡ false)) }
     {
         Ok(End {
             ends: Arc::try_clone(ends)?,
@@ -47,10 +47,9 @@ impl End {
         ensures put { OnOk result (PutOne self.old.line.history ticket self.new.line.history) }
         ensures wakes { IfOk result (λ spent. IsNone spent ↔ IsTrue self.old.comes_back) }
         ensures given_back { IfErr result (λ full. full.0 ≡ ticket) }
-        ensures full { OnErr result (HeldOnce self.old.line.capacity self.old.line.history) }
         ensures unchanged { OnErr result ((self.new.line ≡ self.old.line) × (self.new.comes_back ≡ self.old.comes_back)) }
         ensures comes_back { OnOk result (self.new.comes_back ≡ false) }
-        ensures same { (self.new.line.capacity ≡ self.old.line.capacity) × (self.new.number ≡ self.old.number) }
+        ensures same { IsStill self.old.line self.new.line × (self.new.number ≡ self.old.number) }
     {
         if self.comes_back {
             self.line.put(rt, ticket)?;
@@ -60,15 +59,15 @@ impl End {
         Ok(Some(self.ends.put(rt, &mut self.line, ticket)?))
     }
 
-    // An error shows that the queue was closed, and then found empty.
-    pub(crate) fn take(&mut self, rt: &impl Wait) -> Result<Ticket, Drained>
+    pub(crate) fn take(&mut self, rt: &impl Wait) -> Result<Ticket, Drained<Empty<Ticket>>>
         ensures taken { IfOk result (λ ticket. TookOne self.old.line.history ticket self.new.line.history) }
-        ensures empty { OnErr result ((self.new.line ≡ self.old.line) × HeldOnce 0 self.old.line.history) }
+        ensures closed { IfErr result (λ drained. (self.new.line ≡ self.old.line)
+            × (drained.nothing ≡ look_of self.old.line)) }
         ensures comes_back { OnOk result (self.new.comes_back ≡ true) }
         ensures stays { OnErr result (self.new.comes_back ≡ false) }
-        ensures same { (self.new.line.capacity ≡ self.old.line.capacity) × (self.new.number ≡ self.old.number) }
+        ensures same { IsStill self.old.line self.new.line × (self.new.number ≡ self.old.number) }
     {
-        let taken = self.ends.take(rt, self.number, &mut self.line);
+        let taken = self.ends.take(rt, &self.number, &mut self.line);
         self.comes_back = taken.is_ok();
         taken
     }

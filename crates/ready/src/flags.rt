@@ -2,6 +2,7 @@
 // those of the queues: all threads see them in one order.
 ghost use Rattle.ready.specs.Steps.{BitStep, ReadBits, SetBits, ClearedBits};
 
+use std::sync::Wait;
 use std::sync::atomic::AtomicU32;
 use std::sync::atomic::Ordering::SeqCst;
 use std::thread::Parker;
@@ -47,20 +48,37 @@ impl Bits for AtomicU32 {
     }
 }
 
-/// What wakes an end. The trait leaves open what that does.
+/// What an end sleeps at, and what wakes it. The trait leaves open what that does.
 pub trait Unpark {
-    // The end of this parker was given a permit.
+    // The end of this parker was given a permit. It slept here: one act, between the first and the second.
     ghost unparked: { Self → Type 0 };
+
+    ghost parked: { Self → Self.Acts → Self.Acts → Type 0 };
+
+    /// What has been done so far, as that of [`Bits`].
+    type Acts;
 
     /// Gives a permit.
     fn give(&self)
         ensures { unparked self.now };
+
+    /// Sleeps until there is a permit, and uses it up. It may rise without one.
+    fn sleep<R: Wait>(&self, rt: &R, acts: &mut Self::Acts)
+        ensures { parked self.now acts.old acts.new };
 }
 
 impl Unpark for Parker {
     ghost unparked = { λ _. Unit {0} };
 
+    ghost parked = { λ _ _ _. Unit {0} };
+
+    type Acts = ();
+
     fn give(&self) {
         self.unpark();
+    }
+
+    fn sleep<R: Wait>(&self, rt: &R, _acts: &mut ()) {
+        self.park(rt);
     }
 }

@@ -1,10 +1,10 @@
 // The queue of free slots.
-ghost use Rattle.std.specs.Prelude.{◌≡◌, ◌∷◌, ◌+◌, ◌-◌, ◌≤◌, IfOk, OnOk, IfErr, OnErr, IfSome, IfNone, replicate, ℕ};
-ghost use Rattle.ready.specs.Steps.{first_of, in_order, opened, opener, unused, HeldOnce, PutOne, TookOne, EndState};
+ghost use Rattle.std.specs.Prelude.{◌≡◌, ◌∷◌, ◌+◌, ◌-◌, ◌≤◌, IfOk, OnOk, IfErr, OnErr, replicate, ℕ};
+ghost use Rattle.ready.specs.Steps.{in_order, opened, opener, unused, PutOne, TookOne, EndState};
 
+use crate::moment::{Empty, Full};
 use crate::rule::LineEnd;
 use crate::steps::{Put, Source};
-use crate::ticket::Full;
 use std::alloc::{AllocError, Global};
 use std::marker::Model;
 use std::sync::Wait;
@@ -21,7 +21,7 @@ pub struct FreeQueue {
 impl Model for FreeQueue {
     ghost Value = { EndState ℕ };
 
-    ghost view = { λ q. q.end };
+    ghost view = { λ q. record { capacity = q.end.capacity; history = q.end.history } };
 }
 
 impl FreeQueue {
@@ -51,22 +51,21 @@ impl FreeQueue {
         Ok(all)
     }
 
-    /// Puts a slot at the back. Full gives it back, and nothing has changed.
+    /// Puts a slot at the back. If the queue was full at one moment during the call, nothing has changed.
     pub fn give(&mut self, rt: &impl Wait, slot: usize) -> Result<(), Full<usize>>
         ensures put { OnOk result (PutOne self.old.history slot self.new.history) }
         ensures given_back { IfErr result (λ full. full.0 ≡ slot) }
-        ensures full { OnErr result (HeldOnce self.old.capacity self.old.history) }
         ensures unchanged { OnErr result (self.new ≡ self.old) }
         ensures capacity { self.new.capacity ≡ self.old.capacity }
     {
         self.end.put(rt, slot)
     }
 
-    /// Takes the slot at the front. None: the queue was empty at one moment during the call.
-    pub fn try_take(&mut self, rt: &impl Wait) -> Option<usize>
-        ensures taken { IfSome result (λ slot. TookOne self.old.history slot self.new.history) }
-        ensures empty { IfNone result (HeldOnce 0 self.old.history) }
-        ensures unchanged { IfNone result (self.new ≡ self.old) }
+    /// Takes the slot at the front, unless the queue was empty at one moment during the call.
+    pub fn try_take(&mut self, rt: &impl Wait) -> Result<usize, Empty<usize>>
+        ensures taken { IfOk result (λ slot. TookOne self.old.history slot self.new.history) }
+        ensures empty { IfErr result (λ empty. empty.history ≡ self.old.history) }
+        ensures unchanged { OnErr result (self.new ≡ self.old) }
         ensures capacity { self.new.capacity ≡ self.old.capacity }
     {
         self.end.look(rt)
@@ -76,7 +75,8 @@ impl FreeQueue {
 // Puts the slots in order. No other end exists yet, so the queue has room for all of them.
 fn fill<R: Wait>(rt: &R, end: &mut LineEnd<usize>, first: usize, slots: usize)
     requires few { first + slots ≤ 32768 }
-    requires unused { end.old ≡ first_of slots }
+    requires capacity { end.old.capacity ≡ slots }
+    requires first { end.old.history ≡ opener }
     ensures capacity { end.new.capacity ≡ slots }
     ensures filled { end.new.history ≡ record opener { put = in_order first slots } }
 {

@@ -1,23 +1,59 @@
 // Which ends sleep, and how they are woken.
-ghost use Rattle.std.specs.Prelude.{◌≡◌, ◌≢◌, ◌<◌, IfErr, IfNone, IfOk, IfSome, IsSomeAnd, OnErr, OnOk, slice_get, true, All};
+ghost use Rattle.std.specs.Prelude.{◌≡◌, ◌≢◌, ◌+◌, ◌<◌, IfErr, IfNone, IfOk, IfSome, IsSomeAnd, OnOk, slice_get, true, All};
 
 use crate::flags::Unpark;
 use crate::steps::{
-    ClosedMark, Drained, IdleBits, InVain, MarkSeen, Put, Source, Spent, Wake, look, push,
+    ClosedMark, Drained, IdleBits, InVain, MarkSeen, Put, Source, Spent, Wake, look, push, sleep,
     was_closed,
 };
-use crate::ticket::Full;
 use std::array;
+use std::marker::Model;
 use std::sync::Wait;
 use std::thread::Parker;
 use std::time::Duration;
 
-/// Up to 32 ends: which of them are idle, and what wakes each. Two threads may not share an end.
+/// Up to 32 ends: which of them are idle, and what wakes each.
 #[derive(Drop)]
 pub struct IdleEnds<U = Parker> {
     pub(crate) idle: IdleBits,
     mark: ClosedMark,
     parkers: [U; 32],
+}
+
+/// An end's own bit and parker, as [`EndNumbers`] gave it. It cannot be copied. Two threads may not share one.
+#[derive(Drop)]
+pub struct EndNumber {
+    pub(crate) number: usize,
+    // Private, so that only `next` makes one.
+    made: (),
+    ghost few: { number < 32 },
+}
+
+/// What gives each number once.
+#[derive(Drop)]
+pub struct EndNumbers {
+    given: usize,
+}
+
+impl Model for EndNumbers {
+    ghost use Rattle.std.specs.Prelude.{ℕ};
+
+    ghost Value = { ℕ };
+
+    ghost view = { λ n. n.given };
+}
+
+impl EndNumbers {
+    /// The number of a further end.
+    pub fn next(&mut self) -> EndNumber
+        requires { self.old < 32 }
+        ensures number { result.number ≡ self.old }
+        ensures given { self.new ≡ self.old + 1 }
+    {
+        let number = self.given;
+        self.given += 1;
+        EndNumber { number, made: () }
+    }
 }
 
 /// Shows that a queue was closed: it was marked so, and then every end was woken. Only a close makes one.
@@ -28,25 +64,28 @@ pub struct Closed {
 }
 
 impl IdleEnds {
-    /// The ends of an open queue, all awake.
-    pub fn new() -> IdleEnds {
-        IdleEnds {
+    /// The ends of an open queue, all awake, and their numbers.
+    pub fn new() -> (IdleEnds, EndNumbers)
+        ensures { result.1 ≡ 0 }
+    {
+        let ends = IdleEnds {
             idle: IdleBits::new(),
             mark: ClosedMark::new(),
             parkers: array::from_fn(|_end| Parker::new()),
-        }
+        };
+        (ends, EndNumbers { given: 0 })
     }
 
     /// Looks until something is found, and sleeps while there is nothing.
     pub fn take<L: Source>(
         &self,
         rt: &impl Wait,
-        end: usize,
+        end: &EndNumber,
         line: &mut L,
-    ) -> Result<L::Found, Drained>
-        requires { end < 32 }
+    ) -> Result<L::Found, Drained<L::Nothing>>
         ensures found { IfOk result (λ it. L.found (L.state line.old) it (L.state line.new)) }
-        ensures none { OnErr result ((L.state line.new ≡ L.state line.old) × L.held_none line.new) }
+        ensures none { IfErr result (λ drained. (L.state line.new ≡ L.state line.old)
+            × L.held_none line.new drained.nothing) }
     {
         for _look in rt.forever() {
             let vain = match look(rt, self.mark.read(&mut ()), line) {
@@ -70,11 +109,10 @@ impl IdleEnds {
     fn look_or_park<L: Source>(
         &self,
         rt: &impl Wait,
-        end: usize,
+        end: &EndNumber,
         line: &mut L,
-        vain: InVain<MarkSeen>,
+        vain: InVain<MarkSeen, L::Nothing>,
     ) -> Option<L::Found>
-        requires end { end < 32 }
         requires open { vain.0.closed ≢ true }
         ensures found { IfSome result (λ it. L.found (L.state line.old) it (L.state line.new)) }
         ensures none { IfNone result (L.state line.new ≡ L.state line.old) }
@@ -87,18 +125,17 @@ impl IdleEnds {
                 Some(it)
             }
             Err(vain) => {
-                self.idle.park(&mut (), vain, rt, &self.parkers);
+                let slept = sleep(rt, &mut (), vain, &self.parkers);
+                self.idle.rise(&mut (), slept);
                 None
             }
         }
     }
 
     /// Rests, unless the queue is closed. No put ends that, since the end has not announced itself.
-    pub fn rest(&self, rt: &impl Wait, end: usize, time: Duration)
-        requires { end < 32 }
-    {
+    pub fn rest(&self, rt: &impl Wait, end: &EndNumber, time: Duration) {
         if !self.mark.read(&mut ()).is_closed() {
-            self.parkers[end].park_timeout(rt, time);
+            self.parkers[end.number].park_timeout(rt, time);
         }
     }
 }
@@ -106,11 +143,15 @@ impl IdleEnds {
 impl<U: Unpark> IdleEnds<U> {
     /// Puts an item, and then wakes the idle end with the lowest number for it, if any is idle. Who puts it does not
     /// come back for one.
-    pub fn put<T, L: Put<T>>(&self, rt: &impl Wait, line: &mut L, item: T) -> Result<Spent, Full<T>>
+    pub fn put<T, L: Put<T>>(
+        &self,
+        rt: &impl Wait,
+        line: &mut L,
+        item: T,
+    ) -> Result<Spent, L::Refused>
         ensures put { OnOk result (L.did_put line.old item line.new) }
         ensures woken { IfOk result (λ spent. IfSome spent.0 (λ end. IsSomeAnd (slice_get self.now.parkers end) U.unparked)) }
-        ensures given_back { IfErr result (λ full. full.0 ≡ item) }
-        ensures refused { OnErr result (L.refused line.old line.new) }
+        ensures refused { IfErr result (λ why. L.refused line.old item why line.new) }
     {
         let wake = push(rt, line, item)?;
         Ok(self.wake_one(rt, wake))

@@ -12,9 +12,9 @@
 //! 3. The queue holds the items of the other places, in order.
 //! 4. The places of what one end has put rise, and so do those of what it has taken.
 //!
-//! So each ticket has been taken once or is still there, first in, first out. The answer is Full only if some lawful
-//! state with this end's history was full, and None only if such a state was empty. It is not proved that a call
-//! returns. Tests show it.
+//! So each ticket has been taken once or is still there, first in, first out. At one moment of a call that gives
+//! [`Full`] the queue was full, and of one that gives [`Empty`] it was empty: only such calls make these values
+//! (`moment.rt`). It is not proved that a call returns. Tests show it.
 //!
 //! # How an end sleeps, and who wakes it
 //!
@@ -39,10 +39,11 @@
 //! has a wake (`push`), unless its own end comes back (`End`: `wakes`). A wake can be neither copied nor dropped
 //! (`Wake`): it unparks the one end whose bit it cleared (`wake`), or one look found no bit (`look_for`); each gives
 //! [`Spent`], which a put returns. So an end is woken only once its item was put, or `close` has set its mark
-//! (`wake_all`). `take` returns none only if it read that mark and then looked in vain ([`Drained`]). An end announces
-//! that it is idle only if it read that the queue was open and then looked in vain (`announce`: `open`), and parks once
-//! for each announcement, only after it looked in vain again (`look`, `park`). Its next put counts on it to come back
-//! exactly if its last `take` gave a ticket and it has put nothing since (`End`: `wakes`, `comes_back`, `stays`). The
+//! (`wake_all`). `take` refuses only if it read that mark and then looked in vain at this queue ([`Drained`]). An end
+//! has a bit and a parker of its own ([`EndNumber`]). It announces that it is idle only if it read that the queue was
+//! open and then looked in vain (`announce`: `open`), and sleeps once for each announcement, at its parker, only after
+//! it looked in vain again (`look`, `sleep`: `parked`). Then it clears its bit (`rise`). Its next put counts on it to
+//! come back exactly if its last `take` gave a ticket and it has put nothing since (`End`: `wakes`, `comes_back`). The
 //! word has no step but a read, and to set or clear bits at once (`Bits`), and each says what it found (`cleared`,
 //! `looked`). A close gives a value that only the mark and a wake of every end make ([`Closed`]). An end that found an
 //! item passes a wake on that was spent on it (`withdraw`); one that slept looks again.
@@ -54,13 +55,15 @@ mod free;
 mod history;
 mod idle;
 pub mod laws;
+mod moment;
 mod queue;
 mod rule;
 mod steps;
 mod ticket;
 
 pub use free::FreeQueue;
-pub use idle::{Closed, IdleEnds};
+pub use idle::{Closed, EndNumber, EndNumbers, IdleEnds};
+pub use moment::{Empty, Full};
 pub use queue::ReadyQueue;
 pub use steps::{AllBusy, Drained, Put, Source, Spent};
-pub use ticket::{Full, Ticket};
+pub use ticket::Ticket;

@@ -1,13 +1,13 @@
 // The queue rule as the rule of a queue of `crossbeam_queue`, and one thread's end of such a queue.
 ghost use Rattle.std.specs.Prelude.{◌≡◌, ◌≤◌, IfOk};
 ghost use Rattle.std.specs.Arc.{arc_value};
-ghost use Rattle.crossbeam_queue.specs.Passes.{IsPassOf, ruled_capacity};
-ghost use Rattle.ready.specs.Steps.{among_others, first_of, unused, PutOne, opener, Saw, TookOne, blank, EndState, HeldOnce};
+ghost use Rattle.crossbeam_queue.specs.{Fifo.Held, Passes.{IsPassOf, ruled_capacity}};
+ghost use Rattle.ready.specs.Steps.{among_others, first_of, new_end, IsStill, PutOne, opener, Saw, TookOne, blank, QueueEnd, look_of};
 ghost use Rattle.ready.specs.Rule.{QueueRule};
 
 use crate::history::History;
+use crate::moment::{Empty, Full, pop, push};
 use crate::steps::{Put, Source};
-use crate::ticket::Full;
 use crossbeam_queue::protocol::{Lesson, Outcome, Protocol, Split};
 use crossbeam_queue::{Pass, RuledArrayQueue};
 use std::alloc::{AllocError, Global};
@@ -61,9 +61,9 @@ pub(crate) struct LineEnd<T> {
 }
 
 impl<T> Model for LineEnd<T> {
-    ghost Value = { EndState T };
+    ghost Value = { QueueEnd T };
 
-    ghost view = { λ e. record { capacity = ruled_capacity (arc_value e.line); history = e.pass.me.0.client } };
+    ghost view = { λ e. record { queue = e.pass.table_id; capacity = ruled_capacity (arc_value e.line); history = e.pass.me.0.client } };
 }
 
 impl<T: Drop> LineEnd<T> {
@@ -71,7 +71,7 @@ impl<T: Drop> LineEnd<T> {
     #[tactic(auto, using(crate::proofs::Moves::begins))]
     pub(crate) fn first(alloc: Global, capacity: usize) -> Result<LineEnd<T>, AllocError>
         requires { (1 ≤ capacity) × (capacity ≤ 32768) }
-        ensures { IfOk result (λ end. end ≡ first_of capacity) }
+        ensures { IfOk result (λ end. end ≡ first_of end.queue capacity) }
     {
         let (line, pass) = Line::ruled(alloc, capacity)?;
         Ok(LineEnd {
@@ -84,7 +84,7 @@ impl<T: Drop> LineEnd<T> {
     #[tactic(auto, using(crate::proofs::Moves::forks))]
     pub(crate) fn another(&mut self) -> Result<LineEnd<T>, AllocError>
         ensures same { self.new ≡ record self.old { history = among_others self.old.history } }
-        ensures new { IfOk result (λ end. end ≡ unused self.old.capacity) }
+        ensures new { IfOk result (λ end. end ≡ new_end self.old.queue self.old.capacity) }
     {
         let pass = self.line.another::<NextEnd>(&mut self.pass);
         Ok(LineEnd {
@@ -95,32 +95,34 @@ impl<T: Drop> LineEnd<T> {
 }
 
 impl<T> Put<T> for LineEnd<T> {
-    ghost did_put = { λ old item new. PutOne old.history item new.history × (new.capacity ≡ old.capacity) };
+    ghost did_put = { λ old item new. PutOne old.history item new.history × IsStill old new };
 
-    ghost refused = { λ old new. HeldOnce old.capacity old.history × (new ≡ old) };
+    // What the first end learns of the moment shows that its queue has room for all the slots.
+    ghost refused = { λ old item full new. Held old.capacity (Saw old.history) × (full.0 ≡ item) × (new ≡ old) };
 
-    /// Puts an item at the back. Full gives it back: the queue was full at one moment during the call.
+    type Refused = Full<T>;
+
+    /// Puts an item at the back.
     fn put<R: Wait>(&mut self, rt: &R, item: T) -> Result<(), Full<T>> {
-        match self.line.push_as::<Putting, R>(rt, &mut self.pass, item) {
-            Ok(()) => Ok(()),
-            Err(item) => Err(Full(item)),
-        }
+        push::<T, InPlaces, Putting, R>(rt, &self.line, &mut self.pass, item)
     }
 }
 
-impl<T> Source for LineEnd<T> {
+impl<T: Drop> Source for LineEnd<T> {
     type Found = T;
 
     type State = LineEnd<T>;
 
+    type Nothing = Empty<T>;
+
     ghost state = { λ e. e };
 
-    ghost found = { λ old item new. TookOne old.history item new.history × (new.capacity ≡ old.capacity) };
+    ghost found = { λ old item new. TookOne old.history item new.history × IsStill old new };
 
-    ghost held_none = { λ e. HeldOnce 0 e.history };
+    ghost held_none = { λ e empty. empty ≡ look_of e };
 
-    /// Takes the item at the front. None: the queue was empty at one moment during the call.
-    fn look<R: Wait>(&mut self, rt: &R) -> Option<T> {
-        self.line.pop_as::<Taking, R>(rt, &mut self.pass)
+    /// Takes the item at the front.
+    fn look<R: Wait>(&mut self, rt: &R) -> Result<T, Empty<T>> {
+        pop::<T, InPlaces, Taking, R>(rt, &self.line, &mut self.pass)
     }
 }

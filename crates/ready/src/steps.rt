@@ -1,46 +1,50 @@
 // How ends sleep, and who wakes them: each step gives the value that the next one asks for, and nothing else makes it.
 // A comment at each atomic step names the one that it pairs with.
-ghost use Rattle.std.specs.Prelude.{◌≡◌, ◌≢◌, ◌<◌, ◌↔◌, ℕ, IsErr, IsOk, IsSome, IsSomeAnd, IsTrue, IfErr, IfNone, IfOk, IfSome, OnErr, OnOk, None, Some, length, slice_get, true, not};
+ghost use Rattle.std.specs.Prelude.{◌≡◌, ◌≢◌, ◌<◌, ◌↔◌, ℕ, IsErr, IsOk, IsSome, IsSomeAnd, IsTrue, IfErr, IfOk, OnOk, None, Some, length, slice_get, true, not};
 ghost use Rattle.std.specs.Int.{trailing_zeros, w32};
 ghost use Rattle.ready.specs.Steps.{ReadBits, SetBits, ClearedBits, bit_of, has_bit};
 
 use crate::flags::{Bits, Unpark};
-use crate::ticket::Full;
+use crate::idle::EndNumber;
 use std::sync::Wait;
 use std::sync::atomic::AtomicU32;
-use std::thread::Parker;
 
 /// What items are put into. The trait leaves open what that is.
 pub trait Put<T> {
-    // The item was put, between the first and the second. It was refused.
+    // The item was put, between the first and the second. It was refused, which gave this.
     ghost did_put: { Self → T → Self → Type 0 };
 
-    ghost refused: { Self → Self → Type 0 };
+    ghost refused: { Self → T → Self.Refused → Self → Type 0 };
 
-    /// Puts an item. Full gives it back.
-    fn put<R: Wait>(&mut self, rt: &R, item: T) -> Result<(), Full<T>>
+    /// What shows that the item was refused.
+    type Refused;
+
+    /// Puts an item.
+    fn put<R: Wait>(&mut self, rt: &R, item: T) -> Result<(), Self::Refused>
         ensures put { OnOk result (did_put self.old item self.new) }
-        ensures given_back { IfErr result (λ full. full.0 ≡ item) }
-        ensures refused { OnErr result (refused self.old self.new) };
+        ensures refused { IfErr result (λ why. refused self.old item why self.new) };
 }
 
 /// What an end looks at. The trait leaves open what a look finds, and what that changes.
 pub trait Source {
     ghost state: { Self → Self.State };
-    // This was found, between the first and the second. It held nothing at one moment during the last look.
+    // This was found, between the first and the second. The last look found nothing, which gave this.
     ghost found: { Self.State → Self.Found → Self.State → Type 0 };
 
-    ghost held_none: { Self → Type 0 };
+    ghost held_none: { Self → Self.Nothing → Type 0 };
 
     type Found;
 
     /// What clauses say of it.
     type State;
 
-    /// Looks once. None: it held nothing at one moment.
-    fn look<R: Wait>(&mut self, rt: &R) -> Option<Self::Found>
-        ensures found { IfSome result (λ it. found (state self.old) it (state self.new)) }
-        ensures none { IfNone result ((state self.new ≡ state self.old) × held_none self.new) };
+    /// What shows that it held nothing at one moment.
+    type Nothing: Drop;
+
+    /// Looks once.
+    fn look<R: Wait>(&mut self, rt: &R) -> Result<Self::Found, Self::Nothing>
+        ensures found { IfOk result (λ it. found (state self.old) it (state self.new)) }
+        ensures none { IfErr result (λ nothing. (state self.new ≡ state self.old) × held_none self.new nothing) };
 }
 
 /// A bit for each end. It is set while the end has parked or is about to, and nobody has woken it yet.
@@ -53,8 +57,15 @@ pub(crate) struct IdleBits<W = AtomicU32>(W);
 pub struct AllBusy(());
 
 /// An end that has announced that it is idle. Only [`IdleBits::announce`] makes one. It can be neither copied nor
-/// dropped, so each announcement is withdrawn once.
+/// dropped, so each announcement is withdrawn once, or slept on once.
 pub(crate) struct Announced {
+    end: usize,
+    ghost few: { end < 32 },
+}
+
+/// An end that announced itself, looked in vain, and has slept. Only [`sleep`] makes one. It can be neither copied nor
+/// dropped, so it rises once.
+pub(crate) struct Slept {
     end: usize,
     ghost few: { end < 32 },
 }
@@ -73,26 +84,27 @@ pub(crate) struct MarkSeen {
     closed: bool,
 }
 
-/// A look was in vain, after the step that gave this. Only [`look`] makes one.
+/// A look was in vain, after the step that gave the first. It gave the second. Only [`look`] makes one.
 #[derive(Drop)]
-pub(crate) struct InVain<A>(A);
+pub(crate) struct InVain<A, N>(A, N);
 
 /// A look was made after the step that gave this, and if it was in vain the end has slept.
 #[derive(Drop)]
 pub(crate) struct Looked<A>(A);
 
-/// The queue was closed, and then a look was in vain.
+/// The queue was closed, and then a look was in vain. Only [`was_closed`] makes one.
 #[derive(Drop)]
-pub struct Drained {
+pub struct Drained<N = ()> {
     seen: MarkSeen,
+    /// What that look gave.
+    pub nothing: N,
     ghost closed: { seen.closed ≡ true },
 }
 
 /// Puts an item, and returns the wake that it needs.
-pub(crate) fn push<T, L: Put<T>>(rt: &impl Wait, line: &mut L, item: T) -> Result<Wake, Full<T>>
+pub(crate) fn push<T, L: Put<T>>(rt: &impl Wait, line: &mut L, item: T) -> Result<Wake, L::Refused>
     ensures put { OnOk result (L.did_put line.old item line.new) }
-    ensures given_back { IfErr result (λ full. full.0 ≡ item) }
-    ensures refused { OnErr result (L.refused line.old line.new) }
+    ensures refused { IfErr result (λ why. L.refused line.old item why line.new) }
 {
     line.put(rt, item)?;
     Ok(Wake(()))
@@ -103,27 +115,44 @@ pub(crate) fn look<A, L: Source>(
     rt: &impl Wait,
     after: A,
     line: &mut L,
-) -> Result<(L::Found, Looked<A>), InVain<A>>
+) -> Result<(L::Found, Looked<A>), InVain<A, L::Nothing>>
     ensures found { IfOk result (λ it. L.found (L.state line.old) it.0 (L.state line.new) × (it.1.0 ≡ after)) }
-    ensures none { OnErr result ((L.state line.new ≡ L.state line.old) × L.held_none line.new) }
+    ensures none { IfErr result (λ vain. (L.state line.new ≡ L.state line.old) × L.held_none line.new vain.1) }
     ensures after { IfErr result (λ vain. vain.0 ≡ after) }
 {
     match line.look(rt) {
-        Some(it) => Ok((it, Looked(after))),
-        None => Err(InVain(after)),
+        Ok(it) => Ok((it, Looked(after))),
+        Err(nothing) => Err(InVain(after, nothing)),
     }
 }
 
 /// After a look in vain. Ok: the queue was closed before it.
-pub(crate) fn was_closed(vain: InVain<MarkSeen>) -> Result<Drained, InVain<MarkSeen>>
+pub(crate) fn was_closed<N>(vain: InVain<MarkSeen, N>) -> Result<Drained<N>, InVain<MarkSeen, N>>
     ensures open { IfErr result (λ vain. vain.0.closed ≢ true) }
+    ensures nothing { IfOk result (λ drained. drained.nothing ≡ vain.1) }
 {
-    let InVain(seen) = vain;
+    let InVain(seen, nothing) = vain;
     if seen.closed {
-        Ok(Drained { seen })
+        Ok(Drained { seen, nothing })
     } else {
-        Err(InVain(seen))
+        Err(InVain(seen, nothing))
     }
+}
+
+/// Parks an end that has looked in vain since it announced itself. `parkers` has one for each end, in order.
+pub(crate) fn sleep<N: Drop, U: Unpark>(
+    rt: &impl Wait,
+    acts: &mut U::Acts,
+    vain: InVain<Announced, N>,
+    parkers: &[U],
+) -> Slept
+    requires { vain.0.end < length parkers.now }
+    ensures end { result.end ≡ vain.0.end }
+    ensures parked { IsSomeAnd (slice_get parkers.now vain.0.end) (λ parker. U.parked parker acts.old acts.new) }
+{
+    let InVain(Announced { end }, _) = vain;
+    parkers[end].sleep(rt, acts);
+    Slept { end }
 }
 
 impl IdleBits {
@@ -134,19 +163,19 @@ impl IdleBits {
 
 impl<W: Bits> IdleBits<W> {
     /// Sets the bit of an end that found the queue open, and then looked in vain.
-    pub(crate) fn announce(
+    pub(crate) fn announce<N: Drop>(
         &self,
         acts: &mut W::Acts,
-        end: usize,
-        vain: InVain<MarkSeen>,
+        end: &EndNumber,
+        vain: InVain<MarkSeen, N>,
     ) -> Announced
-        requires few { end < 32 }
         requires open { vain.0.closed ≢ true }
-        ensures same { result.end ≡ end }
-        ensures set { (before : ℕ) × W.did (SetBits (bit_of end) before) self.now.0 acts.old acts.new }
+        ensures same { result.end ≡ end.now.number }
+        ensures set { (before : ℕ) × W.did (SetBits (bit_of end.now.number) before) self.now.0 acts.old acts.new }
     {
         // Pairs with `look_for`. A put pushes and then reads the bits; an end sets its bit and then looks. So one of
         // the two sees the other's step. If the end looked first, it could park although a put came in between.
+        let end = end.number;
         self.0.set(acts, 1u32 << end);
         Announced { end }
     }
@@ -165,20 +194,12 @@ impl<W: Bits> IdleBits<W> {
         if was_woken { Some(Wake(())) } else { None }
     }
 
-    /// Parks an end that has looked in vain since it announced itself, and then clears its bit. The end looks again, so
-    /// a wake that another thread spent on it is used up.
-    pub(crate) fn park(
-        &self,
-        acts: &mut W::Acts,
-        vain: InVain<Announced>,
-        rt: &impl Wait,
-        parkers: &[Parker],
-    )
-        requires { vain.0.end < length parkers.now }
-        ensures cleared { (before : ℕ) × W.did (ClearedBits (bit_of vain.0.end) before) self.now.0 acts.old acts.new }
+    /// Clears the bit of an end that has slept. The end looks again, so a wake that another thread spent on it is used
+    /// up.
+    pub(crate) fn rise(&self, acts: &mut W::Acts, slept: Slept)
+        ensures cleared { (before : ℕ) × W.did (ClearedBits (bit_of slept.end) before) self.now.0 acts.old acts.new }
     {
-        let InVain(Announced { end }) = vain;
-        parkers[end].park(rt);
+        let Slept { end } = slept;
         self.0.clear(acts, 1u32 << end);
     }
 

@@ -1,4 +1,4 @@
-// What waits in the queue of tickets, and what a full queue answers.
+// What waits in the queue of tickets.
 
 /// The right to try a slot.
 #[derive(Clone, Copy, PartialEq, Eq)]
@@ -8,7 +8,3 @@ pub struct Ticket {
     /// The slot's generation when the ticket was made.
     pub generation: u64,
 }
-
-/// The queue was full at one moment during the call. This is the item that it refused.
-#[derive(Clone, Copy)]
-pub struct Full<T>(pub T);

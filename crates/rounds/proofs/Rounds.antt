@@ -1,5 +1,6 @@
 -- Connections that are opened one after the other, why one is closed unopened, and a round of its parts.
 use Rattle.std.proofs.{Common.{◌≡◌, ◌≢◌, ◌⊎◌, ℕ, ◌+◌, ◌<◌, ◌≤◌, List, [], ◌∷◌, ◌++◌, length, drop, slice_get, slice_set, min, cond, Bool, true, refl, sym, ◌∙◌, arith, inl, inr, append_assoc, length-append, Option, Some, None, ◌==◌, Result, Ok, Err, IfErr, IfOk, IfSome, IsErrAnd, MatchResult, slice_index, ap, ◌↔◌, IsTrue, false, Contains, if◌then◌else◌}, lemmas.{Bool.false≢true, List.{append-nil, length-set, get_or-set_other, get_or_past, Sums.sum_by-append}, Grind.get_or-set_at, Option.{none-some, same_Some}}}
+use Rattle.std.specs.Prelude.{IsErr}
 use Rattle.claims.{specs.{declared.answers.Posted.Posted, Calls.PostChange, Seats.{SeatState, TableId, Adds, account_at}, declared.view.{Account.Account, Exchange.{Exchange, TheVariants.{NotFree as WasNotFree}}}, Views.after_all}, proofs.Seats.{account_after, adds_both, adds_none}}
 use Rattle.common.{specs.{Posts.{HoldsOnly, IsWorn, OnlyWorn}, declared.{places.Berth.Berth, shared.Own.Own, front.{Unaccepted.{Unaccepted, TheVariants.{Again, Blocked, Starved}}, Unopened.Unopened, Route.Route, Waiting.{Waiting, TheVariants.{No, Brief, Long}}}}, Hands.{HandState, ticket_room}, Acts.{Act, AreMade, Made, Register, Adopt}, Told.{cause_of, Seen, Waited}}, proofs.Holding.{holds_still, woke_behind_post, worn_still}}
 use Rattle.sizes.specs.{declared.split.Part.Part, Splits.IsIn}
@@ -421,6 +422,10 @@ flag_ended p q r v t looked flag same batch (inr gave) = inr gave
 pub flag_up : (p q r v t : PollerState) → Looked p q → (r.accepting ≡ true → (q.accepting ≡ true) ⊎ Contains q.batch 0)
     → v.accepting ≡ r.accepting → t.batch ≡ q.batch → v.accepting ≡ true → (p.accepting ≡ true) ⊎ Contains t.batch 0
 flag_up p q r v t looked flag same batch up = rw batch (rw looked at (flag (rw same at up)))
+
+pub by_err : {T E P : Type 0} (r : Result T E) → IfErr r (λ _. P) → IsErr r → P
+by_err (Ok x) p is = absurd (false≢true is)
+by_err (Err e) p is = p
 
 -- why accepting ended stays the reason, since the slots are taken back only once all connections were opened
 pub ended_still : {p q : PollerState} {a b : Own} → AcceptEnded p a → ((b ≡ a) × (q ≡ p)) ⊎ HasOpenedAll q → AcceptEnded q b

@@ -1,7 +1,7 @@
 -- What a round of the poller does. Of four states the first two are the poller's, before and after, and the last two
 -- what its thread owns.
 use Rattle.std.specs.Prelude.{◌≡◌, ◌≢◌, ◌⊎◌, ◌↔◌, ℕ, ◌+◌, ◌<◌, ◌≤◌, true, false, List, [], ◌++◌, length, Contains, Result, Err}
-use Rattle.ready.specs.{declared.ticket.Ticket.Ticket, Steps.HeldOnce}
+use Rattle.ready.specs.declared.ticket.Ticket.{Ticket}
 use Rattle.common.specs.{declared.{front.{Route.Route, Unaccepted.Unaccepted, Waiting.Waiting}, places.Berth.Berth, shared.Own.Own}, Acts.Made, Hands.{HasRoom, ticket_room}, Outgoing.tickets_out, Posts.{IsWorn, OnlyWorn}}
 use Rattle.sizes.specs.declared.split.Part.{Part}
 use Rattle.rounds.specs.{Acts.{SeatAct, due_of, ActsMade, ArePosts, AreTries, InOrder, PostsMade, all_reported, ArePosted, is_due, sweep_of, swept_after}, Openings.{AreIn, AreLost, AreOpened, OnlyTook, SameQueues, SlotsCounted, TriesMade, TriesNext, unmarked}, Pollers.{PollerState, HasOpenedAll, Counted, spare_room}, Episodes.AreLogged}
@@ -59,10 +59,9 @@ pub record AllPosted {S : Type 0} (acts : Made S) (part : Part) (tickets : List 
   pub own : AreIn part tickets
   pub queues : SameQueues had has
 
--- no free slot is in hand, and at one moment there was none in the queue
-pub record NoSlot (own : Own) : Type 0 where
-  pub hand : own.hand.slots ≡ []
-  pub queue : HeldOnce 0 own.free.history
+-- no free slot is in hand
+abbrev pub NoSlot : Own → Type 0
+NoSlot own = own.hand.slots ≡ []
 
 -- a look for reports changes at most this of what the poller keeps
 abbrev pub Looked : PollerState → PollerState → Type 0
@@ -171,13 +170,9 @@ pub record IsOver (p : PollerState) (own : Own) : Type 0 where
   pub opened : HasOpenedAll p
   pub back : IsBack p own
 
--- free slots were taken in hand: none was left in the queue at one moment, or this many are in hand, or no more fit
-abbrev pub TookAll : ℕ → Own → Type 0
-TookAll slots own = HeldOnce 0 own.free.history ⊎ ((slots ≤ length own.hand.slots) ⊎ (HasRoom own.hand → ⊥))
-
--- once the poller has opened all that it may, it takes its slots in hand, and is over if all are back
+-- once the poller has opened all that it may, it is over if all its slots are back
 abbrev pub LooksForAll : PollerState → Own → Type 0
-LooksForAll p own = HasOpenedAll p → TookAll p.part.slots own × (IsBack p own → p.over ≡ true)
+LooksForAll p own = HasOpenedAll p → IsBack p own → p.over ≡ true
 
 -- A round that began, and whose poll did not fail: it is refused exactly if the seat is worn then. It delivered what its
 -- front reported, at a second that the clock may show. A sweep was made if one was due, accepting ended for a reason, the

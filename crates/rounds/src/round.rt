@@ -1,8 +1,7 @@
 //! A round of the poller.
-ghost use Rattle.std.specs.{Prelude.{◌≡◌, ◌⊎◌, ◌+◌, ◌-◌, ◌<◌, ◌≤◌, ◌↔◌, [], length, Err, IsOk, IfErr, IsTrue, MatchResult, Contains, true, false}, IoError.error_kind, declared.io.ErrorKind.TheVariants.Interrupted};
-ghost use Rattle.ready.specs.Steps.{HeldOnce};
-ghost use Rattle.rounds.specs.{Acts.{all_reported}, Episodes.{episodes_after, flag_after, starved_after}, Openings.{Between, OnlyTook, AcceptDone, OneAccepted, TriesMade}, Pollers.{HasOpenedAll, max_accepts, spare_room}, Rounds.{AcceptEnded, AllPosted, EndedEarly, IsFull, IsOver, ListensNoMore, ListensToOpen, Looked, LooksForAll, MayAccept, NoSlot, NoneToAccept, NotBegun, OnlyAnswered, OnlyListens, RoundEnded, RoundInOrder, RoundKeeps, RoundRefused, TookAll, WaitedAsMay, WaitsAsMay}};
-ghost use Rattle.common.specs.{Hands.ticket_room, Posts.IsWorn, Told.{unaccepted_of, Waited}};
+ghost use Rattle.std.specs.{Prelude.{◌≡◌, ◌⊎◌, ◌+◌, ◌-◌, ◌<◌, ◌≤◌, ◌↔◌, [], length, Err, IsOk, IfErr, IsSome, IsTrue, MatchResult, OnErr, OnOk, Contains, true, false}, IoError.error_kind, declared.io.ErrorKind.TheVariants.Interrupted};
+ghost use Rattle.rounds.specs.{Acts.{all_reported}, Episodes.{episodes_after, flag_after, starved_after}, Openings.{Between, OnlyTook, AcceptDone, OneAccepted, TriesMade}, Pollers.{HasOpenedAll, max_accepts, spare_room}, Rounds.{AcceptEnded, AllPosted, EndedEarly, IsFull, IsOver, ListensNoMore, ListensToOpen, Looked, LooksForAll, MayAccept, NoSlot, NoneToAccept, NotBegun, OnlyAnswered, OnlyListens, RoundEnded, RoundInOrder, RoundKeeps, RoundRefused, WaitedAsMay, WaitsAsMay}};
+ghost use Rattle.common.specs.{Hands.{HasRoom, ticket_room}, Posts.IsWorn, Told.{unaccepted_of, Waited}};
 
 use crate::delivering::{deliver_by, refuse_worn};
 use crate::opening::open;
@@ -14,6 +13,7 @@ use common::{
     unaccepted_of,
 };
 use log::{Log, error};
+use ready::Empty;
 use relay_log::log_all_taken;
 use sizes::{LISTENER, MAX_ACCEPTS, MAX_BATCH, ServerFault};
 use std::alloc::Global;
@@ -128,13 +128,15 @@ fn may_wait<F: Front, R: Wait>(rt: &R, own: &mut Own, poller: &Poller<F>, limit:
     ensures still { result ≡ Waiting.Long → own.new ≡ own.old }
 {
     if is_due(poller, limit) || own.hand.tickets() > 0 {
-        Waiting::No
-    } else if poller.starved || !may_accept(rt, own, poller) {
-        Waiting::Long
-    } else if poller.left {
-        Waiting::Brief
-    } else {
-        Waiting::No
+        return Waiting::No;
+    }
+    if poller.starved {
+        return Waiting::Long;
+    }
+    match may_accept(rt, own, poller) {
+        Err(_) => Waiting::Long,
+        Ok(()) if poller.left => Waiting::Brief,
+        Ok(()) => Waiting::No,
     }
 }
 
@@ -211,22 +213,25 @@ fn log_if_full<F: Front, A, R: Wait + Log>(
     if poller.episodes.full {
         return;
     }
-    if !is_full(rt, own, poller) {
+    let Some(_none) = is_full(rt, own, poller) else {
         return;
-    }
+    };
     poller.episodes.full = true;
     if shared.full.enter() {
         log_all_taken(rt, shared.claims.slots());
     }
 }
 
-/// Whether a client waits for a slot.
-fn is_full<F: Front, R: Wait>(rt: &R, own: &mut Own, poller: &Poller<F>) -> bool
+/// Whether a client waits for a slot. Some: the queue was empty.
+fn is_full<F: Front, R: Wait>(rt: &R, own: &mut Own, poller: &Poller<F>) -> Option<Empty<usize>>
     requires room { 1 ≤ ticket_room own.old.hand }
     ensures took { OnlyTook own.old own.new }
-    ensures full { IsTrue result ↔ IsFull poller.now own.new }
+    ensures full { IsSome result ↔ IsFull poller.now own.new }
 {
-    poller.batch().contains(&LISTENER) && !poller.has_opened_all() && !has_slot(rt, own)
+    if !poller.batch().contains(&LISTENER) || poller.has_opened_all() {
+        return None;
+    }
+    has_slot(rt, own).err()
 }
 
 /// Accepts and opens connections while a client may be waiting and a slot is free. First it looks whether the poller is
@@ -251,7 +256,7 @@ fn accept<F: Front, A: Moves<F>, R: Wait + Log>(
     log_if_full(rt, shared, own, poller);
     poller.reset_tries();
     for _try in 0..MAX_ACCEPTS {
-        if !may_accept(rt, own, poller) {
+        if may_accept(rt, own, poller).is_err() {
             return;
         }
         if !accept_next(rt, alloc, acts, shared, own, poller) {
@@ -260,14 +265,23 @@ fn accept<F: Front, A: Moves<F>, R: Wait + Log>(
     }
 }
 
-fn may_accept<F: Front, R: Wait>(rt: &R, own: &mut Own, poller: &Poller<F>) -> bool
+/// Refuses if no connection can be accepted now: with what shows that the queue was empty, if only a slot is missing.
+fn may_accept<F: Front, R: Wait>(
+    rt: &R,
+    own: &mut Own,
+    poller: &Poller<F>,
+) -> Result<(), Option<Empty<usize>>>
     requires room { 1 ≤ ticket_room own.old.hand }
     ensures took { OnlyTook own.old own.new }
-    ensures ended { result ≡ false → NoneToAccept poller.now own.new }
-    ensures still { result ≡ false → own.new ≡ own.old }
-    ensures may { result ≡ true → MayAccept poller.now own.new }
+    ensures ended { OnErr result (NoneToAccept poller.now own.new) }
+    ensures slot { IfErr result (λ none. IsSome none ↔ ((poller.now.accepting ≡ true) × (HasOpenedAll poller.now → ⊥))) }
+    ensures still { OnErr result (own.new ≡ own.old) }
+    ensures may { OnOk result (MayAccept poller.now own.new) }
 {
-    poller.accepting && !poller.has_opened_all() && has_slot(rt, own)
+    if !poller.accepting || poller.has_opened_all() {
+        return Err(None);
+    }
+    has_slot(rt, own).map_err(Some)
 }
 
 /// Accepts and opens one connection, unless the client is better left to another poller, or the seat is worn. Returns
@@ -306,29 +320,28 @@ fn accept_next<F: Front, A: Moves<F>, R: Wait + Log>(
     }
 }
 
-/// Whether a free slot is in hand. If none is, it tries to take one first.
-fn has_slot<R: Wait>(rt: &R, own: &mut Own) -> bool
+/// Whether a free slot is in hand. If none is, it tries to take one first, and refuses if the queue was empty.
+fn has_slot<R: Wait>(rt: &R, own: &mut Own) -> Result<(), Empty<usize>>
     requires room { 1 ≤ ticket_room own.old.hand }
     ensures took { OnlyTook own.old own.new }
-    ensures slot { result ≡ true → 1 ≤ length own.new.hand.slots }
-    ensures none { result ≡ false → NoSlot own.new × (own.new ≡ own.old) }
+    ensures slot { OnOk result (1 ≤ length own.new.hand.slots) }
+    ensures none { OnErr result (NoSlot own.new × (own.new ≡ own.old)) }
 {
-    own.hand.slots() > 0 || take_one(rt, own)
+    if own.hand.slots() > 0 {
+        return Ok(());
+    }
+    take_one(rt, own)
 }
 
-fn take_one<R: Wait>(rt: &R, own: &mut Own) -> bool
+fn take_one<R: Wait>(rt: &R, own: &mut Own) -> Result<(), Empty<usize>>
     requires room { length own.old.hand.slots < own.old.hand.capacity }
     ensures took { OnlyTook own.old own.new }
-    ensures none { result ≡ false → HeldOnce 0 own.new.free.history × (own.new ≡ own.old) }
-    ensures more { result ≡ true → length own.new.hand.slots ≡ length own.old.hand.slots + 1 }
+    ensures none { OnErr result (own.new ≡ own.old) }
+    ensures more { OnOk result (length own.new.hand.slots ≡ length own.old.hand.slots + 1) }
 {
-    match own.free.try_take(rt) {
-        Some(slot) => {
-            own.hand.keep_slot(slot);
-            true
-        }
-        None => false,
-    }
+    let slot = own.free.try_take(rt)?;
+    own.hand.keep_slot(slot);
+    Ok(())
 }
 
 /// Keeps what an error of accept(2) means. Returns whether another try is worth making. That accept(2) is starved is
@@ -389,19 +402,21 @@ fn take_back<F: Front, R: Wait>(rt: &R, own: &mut Own, poller: &mut Poller<F>)
     }
     listen_to_open(poller);
     let slots = poller.part.slots;
-    take_all(rt, own, slots);
+    let _ = take_all(rt, own, slots);
     let free = own.hand.slots() as u64;
     poller.over = free.saturating_add(poller.lost) >= slots as u64;
 }
 
-/// Takes free slots in hand, `most` at most, until the queue has none or the hand is full.
-fn take_all<R: Wait>(rt: &R, own: &mut Own, most: usize)
+/// Takes free slots in hand, `most` at most, until the hand is full. Refuses if the queue was empty before.
+fn take_all<R: Wait>(rt: &R, own: &mut Own, most: usize) -> Result<(), Empty<usize>>
     ensures took { OnlyTook own.old own.new }
-    ensures all { TookAll most own.new }
+    ensures all { OnOk result ((most ≤ length own.new.hand.slots) ⊎ (HasRoom own.new.hand → ⊥)) }
 {
     for _slot in 0..most {
-        if !own.hand.has_room() || !take_one(rt, own) {
-            return;
+        if !own.hand.has_room() {
+            return Ok(());
         }
+        take_one(rt, own)?;
     }
+    Ok(())
 }

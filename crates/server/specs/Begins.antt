@@ -1,7 +1,7 @@
 -- What a server begins with.
 use Rattle.std.specs.Prelude.{◌≡◌, ℕ, ◌+◌, List, [], ◌∷◌, replicate}
 use Rattle.claims.specs.Seats.{TableId, fresh_seat}
-use Rattle.ready.specs.Steps.{EndState, opened, unused}
+use Rattle.ready.specs.Steps.{AreNew, EndState, opened, unused}
 use Rattle.common.specs.{declared.shared.Parts.Parts, Told.Seen}
 use Rattle.sizes.specs.{declared.split.Split.Split, Splits.{each_part, part_of, parts_of}}
 use Rattle.rounds.specs.{Openings.fresh_poller, Pollers.PollerState}
@@ -25,10 +25,10 @@ abbrev pub free_ends : Settings → Split → List (List (EndState ℕ))
 free_ends settings split = each_part split.slots split.size
     (λ part. opened part.first part.slots ∷ replicate settings.workers (unused part.slots))
 
--- What threads are made from: for each poller and each worker a seat and an end of the queue of tickets, and for each
+-- What threads are made from: for each poller and each worker a seat and an end of one queue of tickets, and for each
 -- part a queue that holds its slots in order, with an end for its poller and one for each worker. All are as new
 pub record ThreadsBegin (settings : Settings) (split : Split) (claims : TableId) (parts : Parts)
     (ends : List (List (EndState ℕ))) : Type 0 where
   pub seats : parts.seats.items ≡ replicate (parts_of split.slots split.size + settings.workers) (fresh_seat claims)
-  pub ready : parts.ready.items ≡ replicate (parts_of split.slots split.size + settings.workers) (unused settings.slots)
+  pub ready : AreNew (parts_of split.slots split.size + settings.workers) settings.slots parts.ready.items
   pub free : ends ≡ free_ends settings split

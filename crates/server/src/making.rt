@@ -1,7 +1,7 @@
 //! What a server is made of, before its threads run.
 ghost use Rattle.std.specs.Prelude.{◌≡◌, ◌↔◌, ◌+◌, ◌-◌, ◌<◌, ◌≤◌, ◌∷◌, length, replicate, map, IfOk, IfErr, IsTrue};
 ghost use Rattle.claims.specs.Seats.{fresh_seat};
-ghost use Rattle.ready.specs.Steps.{unused, opened as filled};
+ghost use Rattle.ready.specs.Steps.{unused, opened as filled, AreNew};
 ghost use Rattle.server.specs.{Limits.{SharesLight, share_of}, Begins.{all_begun, begun, ThreadsBegin}};
 ghost use Rattle.sizes.specs.Splits.{each_part, parts_of};
 ghost use Rattle.settings.specs.Calls.{calls_for};
@@ -156,7 +156,7 @@ fn shared_of<F: Front>(
     ensures budget { IfOk result (λ made. made.0.budget ≡ calls_for settings.now.budget) }
     ensures waker { IfOk result (λ made. made.0.waker ≡ waker) }
     ensures seats { IfOk result (λ made. made.1.seats.items ≡ replicate threads (fresh_seat made.0.claims)) }
-    ensures ready { IfOk result (λ made. made.1.ready.items ≡ replicate threads (unused settings.now.slots)) }
+    ensures ready { IfOk result (λ made. AreNew threads settings.now.slots made.1.ready.items) }
     ensures light { IfOk result (λ made. IsTrue made.0.shares_light ↔ SharesLight pollers settings.now.workers) }
     ensures refused { IfErr result (λ fault. fault ≡ ServerFault.NoMemory) }
 {

@@ -1,10 +1,10 @@
 -- What the calls of a thread's loop do with the tickets that it is obliged to put.
 use Rattle.std.{proofs.{Common.{◌≡◌, ◌≢◌, ℕ, zero, suc, ◌+◌, ◌-◌, ◌<◌, ◌≤◌, Bool, true, false, cond, List, [], ◌∷◌, ◌++◌, drop, length, length-append, length-set, sym, ◌∙◌, refl, ap, arith, inl, inr, append_assoc}, lemmas.{List.{get_or-set_same, map-append, append-nil, set-set, Concat.flat_map-append, Elements.{All-append, All-head, All-map, All-tail, All-weaker}, Sums.{sum_by-append, sum_by-set}}, Option.{none-some, same_Some, get_or_from_slice_get, slice_get-get_or, slice_get_read, slice_get_within}, Bool.{ltb-true, ltb-false, cases_lt}}, Math.Seq.map-set_same}, specs.{List.{All, slice_set}, Prelude.{◌==◌, ◌&&◌, Option, Some, None, Result, Ok, Err, IsOk, OnOk, IfErr, slice_get, map, nat_lt, if◌then◌else◌, ◌⊎◌}}}
 use Rattle.claims.specs.{declared.view.Exchange.Exchange, Views.minted_by, Seats.SeatState}
-use Rattle.ready.specs.{declared.ticket.Ticket.Ticket, Steps.EndState}
+use Rattle.ready.specs.{declared.{history.History.History, ticket.Ticket.Ticket}, Steps.QueueEnd}
 use Rattle.sizes.specs.declared.faults.ServerFault.{ServerFault, TheVariants.Poll}
 use Rattle.common.{proofs.Outgoing.took_both, specs.{declared.{front.Unaccepted.Unaccepted, shared.Own.Own}, Acts.Made, Hands.HandState, Outgoing.{Inserted, outgoing, tickets_out, slots_out, without_first}, Heavy.looked_at}}
-use Rattle.turns.specs.{declared.worker.Worked.Worked, Shares.{AreShared, OneShared, TicketsShared}, Turns.{TicketsKept, SlotsKept, TurnMade, WorkerTurn, OldestRan, OwnTurn, Handled, Playing, program}}
+use Rattle.turns.specs.{declared.worker.{HandPut.HandPut, Worked.Worked}, Shares.{AreShared, OneShared, TicketsShared}, Turns.{TicketsKept, SlotsKept, TurnMade, WorkerTurn, OldestRan, OwnTurn, Handled, Playing, program}}
 use Rattle.threads.{proofs.Divided.End, specs.{Divided.ends_of, declared.{ending.{Ended.Ended, Why.{Why, TheVariants.FaultFound}}, working.Owned.Owned}, Loops.{faults_by, times_of, freed, Run, tickets_of, act_of, acts_of, due_from, fault_in, faults_of, IsRun, TurnsMade, takes_of, times_by, times_given, SlotsGiven, Changes, OthersKept, OneRan, tickets_in, Took, WorkerMayEnd, WorkerEnded, WorkerRan, OwnTurnsRan, OwnRan, SharedAndRan, TurnsCut, NoTicketTaken, Asked, Ends, EndsWell, RoundMade, RoundOver, TurnsAfter, StepCut, StepsMade, IsPollerAct, PollerRan, opened_by, openings_of}}}
 use Rattle.rounds.{specs.{Pollers.PollerState, Rounds.{EndedEarly, NotBegun, RoundDone, RoundEnded, RoundKeeps}, Acts.{SeatAct, made_by, due_of, IsPost, IsTry}, Openings.{slots_in, times}}, proofs.Acts.{all_none, all_one, acts_none, acts_one, acts_both, at_slot-append, due-append}}
 use Rattle.turns.specs.declared.worker.Worked.TheVariants as worked
@@ -36,8 +36,8 @@ inserted {t = t} count append more =
     omega (arith, ap count more.is, ap count more.was, append more.before (t ∷ more.after), append (t ∷ []) more.after, append more.before more.after)
 
 -- what an end of a queue has put
-abbrev puts : {T : Type 0} → EndState T → List T
-puts {T} end = map (λ (put : ℕ × T). put.1) end.history.put
+abbrev puts : {T : Type 0} → History T → List T
+puts {T} history = map (λ (put : ℕ × T). put.1) history.put
 
 -- Turns
 
@@ -126,7 +126,7 @@ exchanged (suc n) {f} {g} {h} {i} {xs} {ys} {zs} one two = by (slice_get xs n) r
         record { at = suc n; there = rw (is, was.0); new_is = rw (next.0, next.1, set-set xs n f h); mine = λ within. refl }
 
 given_out : (s : ℕ) (a : Own) → times s (slots_out a) ≡ times_by s a.free + times s a.hand.slots
-given_out s a = slots-append s (puts a.free) a.hand.slots
+given_out s a = slots-append s (puts a.free.history) a.hand.slots
 
 -- the end in use, as the turn's `own` had it, took nothing, and these slots are free now and given or in hand
 gave : {fs : List ℕ} {number : ℕ} {a b : Owned} {g : End} (d : Own) → IsUsed number (ends_of a) g d.free (ends_of b) → d.free.history.taken ≡ g.history.taken
@@ -231,9 +231,10 @@ module _ (a : Owned) {t : Ticket} {b : Own} (took : Took t a.own b) where
   }
 
 -- a worker's turn, between two exchanges of its ends
-pub one_ran : {words p : ℕ} {t : Ticket} {answer : Result Worked ServerFault} {S C T : Type 0} {acts : Handled C T → Made S} {plays : Playing C T} {from to : S} {a b : Owned} {c : Own} {g h : End}
+pub one_ran : {words p : ℕ} {t : Ticket} {first : HandPut} {answer : Result Worked ServerFault} {S C T : Type 0}
+    {acts : Handled C T → Made S} {plays : Playing C T} {from to : S} {a b : Owned} {c : Own} {g h : End}
     {xs : List End} → a.own.seat.table.words ≡ words → Changes p a.own.free g a.others.items xs
-    → WorkerTurn acts plays words t answer (record a.own { free = g }) c from to → b.own.seat ≡ c.seat → b.own.ready ≡ c.ready → b.own.hand.tickets ≡ c.hand.tickets
+    → WorkerTurn acts plays words t first answer (record a.own { free = g }) c from to → b.own.seat ≡ c.seat → b.own.ready ≡ c.ready → b.own.hand.tickets ≡ c.hand.tickets
     → h.history.taken ≡ c.free.history.taken → outgoing h.history b.own.hand.slots ≡ slots_out c → Changes p h b.own.free xs b.others.items → OneRan t answer a b
 one_ran {p = p} {t = t} {answer = answer} {a = a} {b = b} {c = c} {h = h} same one made seat ready tickets took slots two =
     let turn = made.turn.0 in
@@ -250,18 +251,18 @@ one_ran {p = p} {t = t} {answer = answer} {a = a} {b = b} {c = c} {h = h} same o
 -- A poller
 
 -- sharing the tickets in hand loses none
-module _ (u : Ticket) where
-  one_shared : (stayed : ℕ) (heavy : List ℕ) (t : Ticket) (queue : EndState Ticket) (after : ℕ) (in_hand : List Ticket) (next : EndState Ticket)
-      → OneShared stayed heavy t queue after in_hand next
-      → times_of u (puts next) + times_of u in_hand ≡ times_of u (puts queue) + times_of u (t ∷ [])
+module _ {X : Type 0} (full : Option X) (u : Ticket) where
+  one_shared : (stayed : ℕ) (heavy : List ℕ) (t : Ticket) (queue : QueueEnd Ticket) (after : ℕ) (in_hand : List Ticket) (next : QueueEnd Ticket)
+      → OneShared full stayed heavy t queue after in_hand next
+      → times_of u (puts next.history) + times_of u in_hand ≡ times_of u (puts queue.history) + times_of u (t ∷ [])
   one_shared stayed heavy t queue after in_hand next (inl stays) = rw (stays.2, stays.3)
   one_shared stayed heavy t queue after in_hand next (inr (goes, still, inl put)) =
-      rw (put.1, put.0.put.put, map-append) (omega (arith, times-append u (puts queue) (t ∷ [])))
-  one_shared stayed heavy t queue after in_hand next (inr (goes, still, inr refused)) = rw (refused.1, refused.0.same)
+      rw (put.1, put.0.put.put, map-append) (omega (arith, times-append u (puts queue.history) (t ∷ [])))
+  one_shared stayed heavy t queue after in_hand next (inr (goes, still, inr refused)) = rw (refused.2, refused.1)
 
-  all_shared : (stayed : ℕ) (heavy : List ℕ) (ts : List Ticket) (queue : EndState Ticket) (kept : List Ticket) (left : List ℕ) (end : EndState Ticket)
-      → AreShared stayed heavy ts queue kept left end
-      → times_of u (puts end) + times_of u kept ≡ times_of u (puts queue) + times_of u ts
+  all_shared : (stayed : ℕ) (heavy : List ℕ) (ts : List Ticket) (queue : QueueEnd Ticket) (kept : List Ticket) (left : List ℕ) (end : QueueEnd Ticket)
+      → AreShared full stayed heavy ts queue kept left end
+      → times_of u (puts end.history) + times_of u kept ≡ times_of u (puts queue.history) + times_of u ts
   all_shared stayed heavy [] queue kept left end none = rw (none.0, none.2)
   all_shared stayed heavy (t ∷ ts) queue kept left end (after, in_hand, next, rest, one, is, more) = rw is (omega (
     arith,
@@ -271,12 +272,12 @@ module _ (u : Ticket) where
     times-append u (t ∷ []) ts,
   ))
 
-  shared_same : {heavy left : List ℕ} {a b : Own} → TicketsShared heavy left a b → times_of u (tickets_out b) ≡ times_of u (tickets_out a)
+  shared_same : {heavy left : List ℕ} {a b : Own} → TicketsShared full heavy left a b → times_of u (tickets_out b) ≡ times_of u (tickets_out a)
   shared_same {heavy} {left} {a} {b} shared = omega (
     arith,
     all_shared 0 heavy a.hand.tickets a.ready b.hand.tickets left b.ready shared.tickets,
-    times-append u (puts a.ready) a.hand.tickets,
-    times-append u (puts b.ready) b.hand.tickets,
+    times-append u (puts a.ready.history) a.hand.tickets,
+    times-append u (puts b.ready.history) b.hand.tickets,
   )
 
 -- no turn was run
@@ -317,8 +318,8 @@ own_one {answer = answer} {a = a} {b = b} same run =
       tickets = λ u. omega (
         arith,
         tickets_one t (minted_by made.exchanges) (without_first a) b made.done.tickets u,
-        times-append u (puts a.ready) a.hand.tickets,
-        times-append u (puts a.ready) (drop 1 a.hand.tickets),
+        times-append u (puts a.ready.history) a.hand.tickets,
+        times-append u (puts a.ready.history) (drop 1 a.hand.tickets),
         times_first u a.hand.tickets t run.oldest,
       );
       slots = slots_one t answer (without_first a) b made.done.slots made.exchanges;
@@ -334,6 +335,7 @@ own_ran words acts plays from to (Err fault) a b same turn = own_one same turn
 pub shared_then : {n m : ℕ} {faults : List ServerFault} {p q r : PollerState} {a b c : Own} → SharedAndRan n [] p q a b → OwnTurnsRan m faults b c
     → r ≡ record q { heavy = r.heavy } → SharedAndRan (n + m) faults p r a c
 shared_then {r = r} made turns same = record {
+  full = made.full;
   heavy = made.heavy;
   shared = made.shared;
   sharing = made.sharing;
@@ -447,7 +449,7 @@ turns_ran {a = a} {b = b} made =
       made = rw made.sharing.seat at made.turns.turns.made;
       ran = made.turns.ran;
       lost = [];
-      tickets = λ u. omega (arith, made.turns.tickets u, shared_same u made.sharing);
+      tickets = λ u. omega (arith, made.turns.tickets u, shared_same made.full u made.sharing);
       took = made.turns.took.tickets ∙ made.sharing.took;
       slots = λ s. (
           let taken : slots_in b ≡ slots_in a = rw (made.turns.took.slots, made.sharing.free) in

@@ -2,7 +2,7 @@
 use Rattle.std.specs.{Prelude.{◌≡◌, ◌≢◌, ◌⊎◌, ℕ, zero, suc, ◌+◌, ◌-◌, ◌<◌, ◌≤◌, ◌==◌, ◌&&◌, Bool, true, false, nat_lt, if◌then◌else◌, Option, Some, None, option_to_list, List, [], ◌∷◌, ◌++◌, length, map, Result, Ok, Err, IsOk, slice_get, slice_set, IfSome, IsSome, option_map}, List.{count_by, flat_map, sum_by, All}}
 use Rattle.token.specs.Names.{last_generation}
 use Rattle.claims.specs.{declared.view.Exchange.{Exchange, TheVariants.Adopted}, Seats.SeatState}
-use Rattle.ready.specs.{declared.ticket.Ticket.Ticket, Steps.{EndState, HeldOnce, TookOne}}
+use Rattle.ready.specs.{declared.{moment.Full.Full, ticket.Ticket.Ticket}, Steps.{EndState, TookOne, look_of}}
 use Rattle.sizes.specs.declared.faults.ServerFault.{ServerFault}
 use Rattle.common.specs.{declared.{front.Unaccepted.Unaccepted, shared.Own.Own}, Outgoing.{TookNothing, tickets_out, slots_out}, Posts.OnlyWorn}
 use Rattle.sizes.specs.{declared.split.Split.Split, Limits.own_turns, Splits.{IsIn, part_of, parts_of}}
@@ -15,7 +15,7 @@ use Rattle.turns.specs.declared.worker.Worked.TheVariants as worked
 abbrev pub fault_by : Why → Option ServerFault
 fault_by (FaultFound mark) = None
 fault_by PollerOver = None
-fault_by QueueClosed = None
+fault_by (QueueClosed drained) = None
 fault_by (Met fault) = Some fault
 
 abbrev pub faults_by : Why → List ServerFault
@@ -25,7 +25,7 @@ faults_by why = option_to_list (fault_by why)
 abbrev pub EndsAll : Why → Type 0
 EndsAll (FaultFound mark) = Unit {0}
 EndsAll PollerOver = ⊥
-EndsAll QueueClosed = ⊥
+EndsAll (QueueClosed drained) = ⊥
 EndsAll (Met fault) = Unit {0}
 
 -- a fault is recorded, with its thread's number, and this mark is set
@@ -144,9 +144,9 @@ MayEnd mark (FaultFound found) own = found ≡ mark
 MayEnd mark (Met fault) own = OnlyWorn fault own.seat
 MayEnd mark why own = ⊥
 
--- a worker may also end if it found the queue of tickets closed, and empty at one moment
+-- a worker may also end if it found its queue of tickets closed, and then empty, and has put and taken nothing since
 abbrev pub WorkerMayEnd : ℕ → Why → Own → Type 0
-WorkerMayEnd mark QueueClosed own = HeldOnce 0 own.ready.history
+WorkerMayEnd mark (QueueClosed drained) own = drained.nothing ≡ look_of own.ready
 WorkerMayEnd mark why own = MayEnd mark why own
 
 -- A worker's thread ran to its end. If a look found a fault, one ticket at most was taken and not run
@@ -186,7 +186,8 @@ OwnRan (Err fault) old new = OwnTurnsRan 1 (fault ∷ []) old new
 pub record SharedAndRan (count : ℕ) (faults : List ServerFault) (p q : PollerState) (a b : Own) : Type 0 where
   pub heavy : List ℕ
   pub shared : Own
-  pub sharing : TicketsShared p.heavy heavy a shared
+  pub full : Option (Full Ticket)
+  pub sharing : TicketsShared full p.heavy heavy a shared
   pub turns : OwnTurnsRan count faults shared b
   pub poller : q ≡ record p { heavy = q.heavy }
 

@@ -1,12 +1,11 @@
 //! How the threads of a server come to their end: why the loop of each ends, and what becomes of a fault.
-ghost use Rattle.std.specs.Prelude.{◌≡◌, ◌↔◌, IfOk, IfErr, IfSome, IsTrue, OnErr, OnOk, None, option_map, true, false};
-ghost use Rattle.common.specs.Outgoing.{PutAll};
-ghost use Rattle.ready.specs.Steps.{HeldOnce};
+ghost use Rattle.std.specs.Prelude.{◌≡◌, ◌↔◌, [], IfOk, IfErr, IfSome, IsTrue, OnErr, OnOk, None, option_map, true, false};
+ghost use Rattle.ready.specs.Steps.{look_of};
 ghost use Rattle.threads.specs.Loops.{EndsAll, Took, announced, fault_by};
 
 use crate::faults::{Found, Recorded};
 use common::{Front, Own};
-use ready::Ticket;
+use ready::{Drained, Empty, Full, Ticket};
 use rounds::Poller;
 use sizes::ServerFault;
 use std::marker::Model;
@@ -21,8 +20,8 @@ pub enum Why {
     FaultFound(Found),
     /// Its poller is over.
     PollerOver,
-    /// The queue of tickets was found closed and empty.
-    QueueClosed,
+    /// The queue of tickets was found closed, and then empty.
+    QueueClosed(Drained<Empty<Ticket>>),
     /// It met this fault.
     Met(ServerFault),
 }
@@ -73,7 +72,7 @@ impl Ended {
     {
         match self.why {
             Why::FaultFound(_) | Why::Met(_) => true,
-            Why::PollerOver | Why::QueueClosed => false,
+            Why::PollerOver | Why::QueueClosed(_) => false,
         }
     }
 
@@ -103,16 +102,22 @@ pub(crate) fn end_if_over<F: Front>(poller: &Poller<F>) -> Result<(), Ended>
 
 /// Takes a ticket, and may sleep until there is one. So it uses up the look for a fault, and the tickets in hand must
 /// have been put before, as far as the queue had room. It refuses once the queue is closed and empty.
-pub(crate) fn take(rt: &impl Wait, own: &mut Own, _seen: NoFault) -> Result<Ticket, Ended>
-    requires put { PutAll own.old.ready own.old.hand.tickets }
+pub(crate) fn take(
+    rt: &impl Wait,
+    own: &mut Own,
+    _seen: NoFault,
+    _put: Result<(), Full<Ticket>>,
+) -> Result<Ticket, Ended>
+    requires put { OnOk _put (own.old.hand.tickets ≡ []) }
     ensures taken { IfOk result (λ ticket. Took ticket own.old own.new) }
     ensures none { OnErr result (own.new ≡ own.old) }
-    ensures closed { IfErr result (λ ended. (ended.why ≡ Why.QueueClosed) × HeldOnce 0 own.new.ready.history) }
+    ensures closed { IfErr result (λ ended. (drained : _) × (ended.why ≡ Why.QueueClosed drained)
+        × (drained.nothing ≡ look_of own.new.ready)) }
 {
     match own.ready.take(rt) {
-        Some(ticket) => Ok(ticket),
-        None => Err(Ended {
-            why: Why::QueueClosed,
+        Ok(ticket) => Ok(ticket),
+        Err(drained) => Err(Ended {
+            why: Why::QueueClosed(drained),
         }),
     }
 }
@@ -139,7 +144,7 @@ impl Ending {
         let Ended { why } = ended;
         let recorded = match why {
             Why::Met(fault) => Some(self.record(rt, number, fault)),
-            Why::FaultFound(_) | Why::PollerOver | Why::QueueClosed => None,
+            Why::FaultFound(_) | Why::PollerOver | Why::QueueClosed(_) => None,
         };
         (why, recorded)
     }

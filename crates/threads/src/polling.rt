@@ -164,7 +164,7 @@ impl<F: Front> PollerThread<F> {
     {
         let shares_light = self.shared.shares_light;
         let poller = &mut self.poller;
-        share_tickets(context.rt, shares_light, &mut self.own, &mut poller.heavy);
+        let _ = share_tickets(context.rt, shares_light, &mut self.own, &mut poller.heavy);
         for _turn in 0..MAX_OWN_TURNS {
             let seen = match context.ending.look() {
                 Ok(seen) => seen,

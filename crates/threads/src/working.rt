@@ -1,14 +1,14 @@
 //! The steps of a worker's thread.
 ghost use Rattle.std.specs.{Prelude.{◌≡◌, ◌<◌, [], IfErr, OnOk}, Arc.arc_value};
 ghost use Rattle.claims.specs.Seats.{HoldsNothing};
-ghost use Rattle.common.specs.{Hands.HasRoom, Outgoing.{outgoing, PutAll}, Posts.OnlyWorn};
+ghost use Rattle.common.specs.{Hands.HasRoom, Outgoing.outgoing, Posts.OnlyWorn};
 ghost use Rattle.threads.specs.{Divided.ends_of, Loops.{Changes, GivesToOwner, IsTold, OneRan, WorkerEnded, WorkerRan}};
 
 use crate::context::{Context, Told};
 use crate::ending::{Cleared, Ended, take};
 use common::{Clock, Front, Gate, Hand, Own, Shared, give_slots, put_tickets};
 use log::Log;
-use ready::FreeQueue;
+use ready::{FreeQueue, Full, Ticket};
 use sizes::ServerFault;
 use std::sync::{Arc, Wait};
 use std::{mem, thread};
@@ -65,12 +65,12 @@ impl<F: Front> Worker<F> {
         ensures cut { IfErr result (λ ended. WorkerEnded context.now.ending.now ended.why self.old.owned self.new.owned) }
     {
         let seen = context.ending.look()?;
-        self.put_hand(context.rt);
+        let put = self.put_hand(context.rt);
         if !self.owned.own.hand.has_room() {
             thread::yield_now();
             return Ok(());
         }
-        let ticket = take(context.rt, &mut self.owned.own, seen)?;
+        let ticket = take(context.rt, &mut self.owned.own, seen, put)?;
         match context.ending.look_after_take(ticket) {
             Ok(cleared) => match self.turn(context, cleared) {
                 Ok(_) => Ok(()),
@@ -83,13 +83,13 @@ impl<F: Front> Worker<F> {
         }
     }
 
-    /// Puts the tickets that are in hand, as far as their queue has room.
+    /// Puts the tickets that are in hand, until their queue is full.
     #[tactic(auto, using(crate::proofs::Loops::worker_none))]
-    fn put_hand(&mut self, rt: &impl Wait)
+    fn put_hand(&mut self, rt: &impl Wait) -> Result<(), Full<Ticket>>
         ensures ran { WorkerRan [] [] self.old.owned self.new.owned }
-        ensures put { PutAll self.new.owned.own.ready self.new.owned.own.hand.tickets }
+        ensures put { OnOk result (self.new.owned.own.hand.tickets ≡ []) }
     {
-        put_tickets(rt, &mut self.owned.own.ready, &mut self.owned.own.hand);
+        put_tickets(rt, &mut self.owned.own.ready, &mut self.owned.own.hand)
     }
 
     /// Runs the ticket's turn. If the connection ends, its slot goes back to the slot's poller.
@@ -109,7 +109,7 @@ impl<F: Front> Worker<F> {
         let ticket = cleared.ticket;
         let poller = context.split.poller_of(ticket.slot);
         change_end(&mut self.owned.own.free, &mut self.owned.others, poller);
-        let worked = worker_turn(
+        let (_, worked) = worker_turn(
             context.rt,
             &mut (),
             &self.shared,
@@ -152,6 +152,6 @@ fn give_until_empty(rt: &impl Wait, free: &mut FreeQueue, hand: &mut Hand)
         if hand.slots() == 0 {
             return;
         }
-        give_slots(rt, free, hand);
+        let _ = give_slots(rt, free, hand);
     }
 }

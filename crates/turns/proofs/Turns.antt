@@ -1,10 +1,10 @@
 -- The end of a turn, after the steps that took the notes and ran the connection; and the tickets in hand of which some
 -- were looked at: each of those is put, or after the others in hand.
 use Rattle.std.proofs.{Common.{◌≡◌, ◌⊎◌, ◌+◌, ◌<◌, ◌≤◌, ℕ, List, [], ◌∷◌, length, drop, slice_get, get_or, Bool, true, false, Option, Some, None, Result, Ok, IfSome, IfErr, IfNone, inl, inr, refl, sym, ap, ◌∙◌, arith, suc, ◌++◌, append_assoc, zero}, lemmas.{Option.{same_Some}, Bool.{cases_lt, false≢true}, List.{append-nil, drop_more, drop_all}}}
-use Rattle.std.specs.Option.{is_some, ok_or}
+use Rattle.std.specs.Option.{is_some, ok_or, option_or, IsSome}
 use Rattle.claims.{specs.{declared.{view.{Account.Account, Exchange.{Exchange, TheVariants.{Held, Take, Post}}}, answers.Posted.Posted}, Calls.PostChange, Views.{after_all, minted_by}, Seats.{TableId, SeatState, Holds, OnlyAt, Adds}}, proofs.Seats.{adds_both, account_after, minted_both, holds_nothing_again}}
 use Rattle.common.{proofs.Holding.holds_from, specs.{declared.{places.Berth.Berth, shared.Own.Own}, Posts.{AtRest, HoldsOnly, IsWorn, OnlyWorn}, Hands.{HandState, HasRoom}, Acts.{AreMade, Made, giving}, Heavy.looked_at}}
-use Rattle.ready.specs.{declared.ticket.Ticket.Ticket, Steps.EndState}
+use Rattle.ready.specs.{declared.ticket.Ticket.Ticket, Steps.QueueEnd}
 use Rattle.engine.specs.Turns.{outcome_of}
 use Rattle.sizes.specs.declared.faults.ServerFault.{ServerFault, TheVariants.Worn}
 use Rattle.turns.specs.{declared.worker.Worked.Worked, Turns.{noted_by, ActsLeft, Handled, Handles, IsLeft, StaysAs, Playing, RunRest, WasHeld, TurnInOrder, program, AtWork, TicketsKept, SlotGiven, SlotsKept, TurnDone, TurnRest, TurnMade}, Shares.{AreShared, IsLight, OneShared, Passed, Stays}}
@@ -170,54 +170,81 @@ answered (Some v) w is = cc
 answered None w is = absurd (cc)
 
 -- Of all these, `done` were looked at and `stayed` have stayed. Whatever becomes of the rest, it is what becomes of all
-pub record SharedSoFar (all : List Ticket) (marks : List ℕ) (queue : EndState Ticket) (done stayed : ℕ) (hand : List Ticket) (heavy : List ℕ) (now : EndState Ticket) : Type 0 where
+pub record SharedSoFar {X : Type 0} (full : Option X) (all : List Ticket) (marks : List ℕ) (queue : QueueEnd Ticket)
+    (done stayed : ℕ) (hand : List Ticket) (heavy : List ℕ) (now : QueueEnd Ticket) : Type 0 where
   pub kept : List Ticket
   pub is : hand ≡ drop done all ++ kept
-  pub whole : (last : List Ticket) (left : List ℕ) (end : EndState Ticket) → AreShared stayed heavy (drop done all) now last left end → AreShared 0 marks all queue (kept ++ last) left end
+  pub whole : (f : Option X) → (IsSome full → IsSome f) → (last : List Ticket) (left : List ℕ) (end : QueueEnd Ticket)
+      → AreShared f stayed heavy (drop done all) now last left end → AreShared f 0 marks all queue (kept ++ last) left end
 
 -- what became of the ticket that was taken out of a hand, of which this is left
-pub record OneMoved (stayed : ℕ) (heavy : List ℕ) (t : Ticket) (old : Own) (left : HandState) (then : ℕ) (new : Own) : Type 0 where
+pub record OneMoved {X : Type 0} (was full : Option X) (stayed : ℕ) (heavy : List ℕ) (t : Ticket) (old : Own) (left : HandState) (then : ℕ) (new : Own) : Type 0 where
   pub behind : List Ticket
-  pub one : OneShared stayed heavy t old.ready then behind new.ready
+  pub one : OneShared full stayed heavy t old.ready then behind new.ready
+  pub still : IsSome was → IsSome full
   pub hand : new.hand ≡ record left { tickets = left.tickets ++ behind }
   pub few : then ≤ stayed + 1
   pub took : new.ready.history.taken ≡ old.ready.history.taken
   pub seat : new.seat ≡ old.seat
   pub free : new.free ≡ old.free
 
-module _ {stayed : ℕ} {heavy : List ℕ} {t : Ticket} {old : Own} {left : HandState} {then : ℕ} {new o : Own} where
-  pub kept_moves : IsLight heavy t → then ≡ stayed + 1 → new ≡ o → o.hand ≡ record left { tickets = left.tickets ++ t ∷ [] }
-      → o.ready ≡ old.ready → o.seat ≡ old.seat → o.free ≡ old.free → OneMoved stayed heavy t old left then new
-  kept_moves light more is hand ready seat free =
-      rw is (record { behind = t ∷ []; one = inl (light, omega arith, refl, ready); hand = hand; few = omega arith; took = rw ready; seat = seat; free = free })
+one_rises : {X : Type 0} (was full : Option X) {stayed : ℕ} {heavy : List ℕ} {t : Ticket} {queue : QueueEnd Ticket} {then : ℕ} {behind : List Ticket} {next : QueueEnd Ticket}
+    → (IsSome was → IsSome full) → OneShared was stayed heavy t queue then behind next → OneShared full stayed heavy t queue then behind next
+one_rises was full still (inl stays) = inl stays
+one_rises was full still (inr (goes, same, inl put)) = inr (goes, same, inl put)
+one_rises was full still (inr (goes, same, inr refused)) = inr (goes, same, inr (still refused.0, refused.1, refused.2))
 
-  pub passed_moves : (Stays stayed heavy t → ⊥) → then ≡ stayed → new ≡ o → Passed t (record old { hand = left }) o
-      → o.seat ≡ old.seat → o.free ≡ old.free → OneMoved stayed heavy t old left then new
-  passed_moves goes still is (inl put) seat free =
-      rw is (record { behind = []; one = inr (goes, still, inl (put.0, refl)); hand = rw append-nil put.1; few = omega arith; took = rw put.0.put.put; seat = seat; free = free })
-  passed_moves goes still is (inr refused) seat free =
-      rw is (record { behind = t ∷ []; one = inr (goes, still, inr (refused.0, refl)); hand = refused.1; few = omega arith; took = rw refused.0.same; seat = seat; free = free })
+or_first : {X : Type 0} (a b : Option X) → IsSome a → IsSome (option_or a b)
+or_first (Some x) b is = refl
+or_first None b is = absurd (false≢true is)
+
+or_second : {X : Type 0} (a b : Option X) → IsSome b → IsSome (option_or a b)
+or_second (Some x) b is = refl
+or_second None b is = is
+
+module _ {X : Type 0} {was full : Option X} {stayed : ℕ} {heavy : List ℕ} {t : Ticket} {old : Own} {left : HandState} {then : ℕ} {new o : Own} where
+  pub kept_moves : full ≡ was → IsLight heavy t → then ≡ stayed + 1 → new ≡ o → o.hand ≡ record left { tickets = left.tickets ++ t ∷ [] }
+      → o.ready ≡ old.ready → o.seat ≡ old.seat → o.free ≡ old.free → OneMoved was full stayed heavy t old left then new
+  kept_moves same light more is hand ready seat free =
+      rw is (record { behind = t ∷ []; one = inl (light, omega arith, refl, ready); still = λ s. rw same s; hand = hand; few = omega arith; took = rw ready; seat = seat; free = free })
+
+  pub passed_moves : (p : Option X) → full ≡ option_or p was → (Stays stayed heavy t → ⊥) → then ≡ stayed → new ≡ o → Passed p t (record old { hand = left }) o
+      → o.seat ≡ old.seat → o.free ≡ old.free → OneMoved was full stayed heavy t old left then new
+  passed_moves p same goes stay is (inl put) seat free =
+      rw is (record { behind = []; one = inr (goes, stay, inl (put.0, refl)); still = λ s. rw same (or_second p was s);
+        hand = rw append-nil put.1; few = omega arith; took = rw put.0.put.put; seat = seat; free = free })
+  passed_moves p same goes stay is (inr refused) seat free =
+      rw is (record {
+        behind = t ∷ [];
+        one = inr (goes, stay, inr (rw same (or_first p was refused.0), refused.1, refl));
+        still = λ s. rw same (or_second p was s);
+        hand = refused.2;
+        few = omega arith;
+        took = rw refused.1;
+        seat = seat;
+        free = free;
+      })
 
 first_left : (all kept : List Ticket) (done : ℕ) (t : Ticket) → done < length all → slice_get (drop done all ++ kept) 0 ≡ Some t → drop done all ≡ t ∷ drop (done + 1) all
 first_left all kept done t more first =
     let next = drop_more all done t more in
     rw (same_Some (get_or all done t) t (rw next at first)) at next
 
-module _ {all : List Ticket} {marks : List ℕ} {queue : EndState Ticket} {done stayed : ℕ} {hand : List Ticket} {heavy : List ℕ} {now : EndState Ticket}
-    (so_far : SharedSoFar all marks queue done stayed hand heavy now) where
+module _ {X : Type 0} {full : Option X} {all : List Ticket} {marks : List ℕ} {queue : QueueEnd Ticket} {done stayed : ℕ} {hand : List Ticket} {heavy : List ℕ} {now : QueueEnd Ticket}
+    (so_far : SharedSoFar full all marks queue done stayed hand heavy now) where
   -- one more was looked at, the first in hand
-  pub shared_more : {t : Ticket} {left behind : List Ticket} {then : ℕ} {next : EndState Ticket} → done < length all → slice_get hand 0 ≡ Some t → left ≡ drop 1 hand
-      → OneShared stayed heavy t now then behind next → SharedSoFar all marks queue (done + 1) then (left ++ behind) (looked_at t.slot heavy) next
-  shared_more {t} {left} {behind} {then} {next} more first taken one =
+  pub shared_more : {f : Option X} {t : Ticket} {left behind : List Ticket} {then : ℕ} {next : QueueEnd Ticket} → (IsSome full → IsSome f) → done < length all → slice_get hand 0 ≡ Some t
+      → left ≡ drop 1 hand → OneShared f stayed heavy t now then behind next → SharedSoFar f all marks queue (done + 1) then (left ++ behind) (looked_at t.slot heavy) next
+  shared_more {t = t} {left = left} {behind = behind} {then = then} {next = next} still more first taken one =
       let rest = first_left all so_far.kept done t more (rw so_far.is at first) in
       record {
         kept = so_far.kept ++ behind;
         is = rw (taken, so_far.is, rest) (append_assoc (drop (done + 1) all) so_far.kept behind);
-        whole = λ last left end given. rw append_assoc (so_far.whole (behind ++ last) left end (rw rest (then, behind, next, last, one, refl, given)));
+        whole = λ g up last left end given. rw append_assoc (so_far.whole g (λ s. up (still s)) (behind ++ last) left end (rw rest (then, behind, next, last, one_rises _ _ up one, refl, given)));
       }
 
   -- nothing is left to look at
-  pub shared_all : length all ≤ done → AreShared 0 marks all queue hand heavy now
+  pub shared_all : length all ≤ done → AreShared full 0 marks all queue hand heavy now
   shared_all none =
       let rest = drop_all done all none in
-      rw (so_far.is, rest) (rw append-nil at (so_far.whole [] heavy now (rw rest (refl, refl, refl))))
+      rw (so_far.is, rest) (rw append-nil at (so_far.whole full (λ s. s) [] heavy now (rw rest (refl, refl, refl))))

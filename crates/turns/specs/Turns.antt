@@ -1,12 +1,12 @@
 -- What a turn does to what its thread owns, by its answer.
-use Rattle.std.specs.{Prelude.{◌≡◌, ◌≢◌, ◌⊎◌, ℕ, zero, suc, ◌<◌, ◌≤◌, Bool, true, false, nat_lt, if◌then◌else◌, Option, Some, None, Result, Ok, Err, List, [], ◌∷◌, drop, length, slice_get, slice_set, IfSome, IfErr}, Option.is_some}
+use Rattle.std.specs.{Prelude.{◌≡◌, ◌≢◌, ◌⊎◌, ℕ, zero, suc, ◌<◌, ◌≤◌, Bool, true, false, nat_lt, if◌then◌else◌, Option, Some, None, Result, Ok, Err, List, [], ◌∷◌, drop, length, slice_get, slice_set, IfSome, IfErr, OnOk}, Option.is_some}
 use Rattle.claims.specs.{declared.view.Exchange.{Exchange, TheVariants.{Post, Busy, Held, Take, Release, Retire}}, Views.minted_by, Seats.{TableId, account_at, Adds}}
 use Rattle.ready.specs.declared.ticket.Ticket.{Ticket}
 use Rattle.relay_core.specs.{Pairs.{PairState, noted}, Replies.AnswerValue, declared.Side.Side}
 use Rattle.engine.specs.Turns.{IsTurn, outcome_of}
-use Rattle.turns.specs.declared.worker.Worked.{Worked}
+use Rattle.turns.specs.declared.worker.{HandPut.HandPut, Worked.Worked}
 use Rattle.sizes.specs.declared.faults.ServerFault.{ServerFault}
-use Rattle.common.specs.{declared.{places.Berth.Berth, shared.Own.Own}, Acts.{Act, Made, TakeOut, Play, Settle, PutIn, Close, AreMade, busy_turn, gone_turn, quiet_turn, again_turn, ended_turn, leaving}, Hands.HasRoom, Posts.{HoldsOnly, OnlyWorn}, Outgoing.{Inserted, KeepsTicket, KeepsSlot, PutAll, TookNothing, tickets_out, slots_out, without_first}}
+use Rattle.common.specs.{declared.{places.Berth.Berth, shared.Own.Own}, Acts.{Act, Made, TakeOut, Play, Settle, PutIn, Close, AreMade, busy_turn, gone_turn, quiet_turn, again_turn, ended_turn, leaving}, Hands.HasRoom, Posts.{HoldsOnly, OnlyWorn}, Outgoing.{Inserted, KeepsTicket, KeepsSlot, TookNothing, tickets_out, slots_out, without_first}}
 use Rattle.sizes.specs.Limits.{heavy_marks}
 use Rattle.token.specs.Names.{last_generation}
 use Rattle.engine.specs.declared.outcome.Turn.TheVariants as turn
@@ -188,21 +188,21 @@ TurnInOrder made plays words ticket result old new from to =
     × ActsLeft (made h) ticket result 0 (is_some h.found) turn.are.woke from to)
     × (words ≤ ticket.slot → to ≡ from)
 
--- what was in hand was put, until nothing was left or the queue was full at one moment
-pub record HandPut (old new : Own) : Type 0 where
+-- what was in hand was put, until nothing was left or the queue refused it, as it shows
+pub record PutFirst (put : HandPut) (old new : Own) : Type 0 where
   pub seat : new.seat ≡ old.seat
   pub tickets : tickets_out new ≡ tickets_out old
   pub slots : slots_out new ≡ slots_out old
   pub took : TookNothing old new
-  pub all_tickets : PutAll new.ready new.hand.tickets
-  pub all_slots : PutAll new.free new.hand.slots
+  pub all_tickets : OnOk put.tickets (new.hand.tickets ≡ [])
+  pub all_slots : OnOk put.slots (new.hand.slots ≡ [])
 
 -- A worker's turn. What was in hand was put before anything else. Then the turn made its exchanges and its acts in order, by
 -- its answer, and played the connection that it found
 pub record WorkerTurn {S C T : Type 0} (made : Handled C T → Made S) (plays : Playing C T) (words : ℕ) (ticket : Ticket)
-    (result : Result Worked ServerFault) (old new : Own) (from to : S) : Type 0 where
+    (first : HandPut) (result : Result Worked ServerFault) (old new : Own) (from to : S) : Type 0 where
   pub begun : Own
-  pub put : HandPut old begun
+  pub put : PutFirst first old begun
   pub turn : TurnInOrder made plays words ticket result begun new from to
 
 -- the oldest ticket in hand was taken out, and had its turn

@@ -13,22 +13,31 @@ use std::sync::Wait;
 use token::MAX_GENERATION;
 
 /// Puts the ticket of a slot that was released. If it were put before, another thread could take it, find the slot
-/// held, and drop it.
+/// held, and drop it. Some: the queue was full, and the ticket is in hand.
 #[tactic(auto, using(common::proofs::Outgoing::put_inserts, common::proofs::Outgoing::refused_ticket))]
-pub(crate) fn put_ticket<A: Acts, R: Wait>(rt: &R, acts: &mut A, own: &mut Own, ticket: Ticket)
+pub(crate) fn put_ticket<A: Acts, R: Wait>(
+    rt: &R,
+    acts: &mut A,
+    own: &mut Own,
+    ticket: Ticket,
+) -> Option<Full<Ticket>>
     requires released { HoldsNot own.old.seat ticket.slot }
     requires room { length own.old.hand.tickets < own.old.hand.capacity }
     ensures made { A.made act.PutTicket ticket.slot acts.old acts.new }
     ensures seat { own.new.seat ≡ own.old.seat }
-    ensures passed { Passed ticket own.old own.new }
+    ensures passed { Passed result ticket own.old own.new }
     ensures kept { KeepsTicket ticket own.new.ready.history own.new.hand }
     ensures tickets { Inserted ticket (tickets_out own.old) (tickets_out own.new) }
     ensures took { own.new.ready.history.taken ≡ own.old.ready.history.taken }
     ensures free { own.new.free ≡ own.old.free }
     ensures slots { own.new.hand.slots ≡ own.old.hand.slots }
 {
-    if let Err(Full(ticket)) = acts.put_ticket(rt, &mut own.ready, ticket) {
-        own.hand.keep_ticket(ticket);
+    match acts.put_ticket(rt, &mut own.ready, ticket) {
+        Ok(()) => None,
+        Err(full) => {
+            own.hand.keep_ticket(full.0);
+            Some(full)
+        }
     }
 }
 
@@ -55,7 +64,7 @@ pub(crate) fn give_back<A: Acts, R: Wait>(
     if ticket.generation >= MAX_GENERATION {
         return;
     }
-    if let Err(Full(slot)) = acts.give(rt, &mut own.free, ticket.slot) {
-        own.hand.keep_slot(slot);
+    if let Err(full) = acts.give(rt, &mut own.free, ticket.slot) {
+        own.hand.keep_slot(full.0);
     }
 }

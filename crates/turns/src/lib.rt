@@ -19,8 +19,8 @@
 //! - A slot is released once for each `Back`, which says that no connection of it is out of its place (`leave`:
 //!   `back`). A ticket is put, and a slot is given back, once the seat no longer holds the slot (`put_ticket`:
 //!   `released`; `give_back`: `retired`), and a slot only once its connection is closed (`Closed`). Then the poller is
-//!   woken (`wake_if_ended`). What is in hand is put oldest first, until nothing is left or the queue was full
-//!   (`put_tickets`, `give_slots` of `common`: `all`).
+//!   woken (`wake_if_ended`). What is in hand is put oldest first, until nothing is left or the queue is full
+//!   (`put_tickets`, `give_slots` of `common`: `all`), as the answer shows ([`HandPut`]).
 //! - The function that takes the notes and makes the calls (`play`) is passed no allocator, and no `Wait`, so that it
 //!   waits for no lock. The connection's place is locked before `play`, and again after it.
 //! - If workers run light tickets, one after the first 16 is kept only after a look of its own, which found no end of
@@ -35,4 +35,4 @@ mod visit;
 mod worker;
 
 pub use own_turns::{own_turn, share_tickets};
-pub use worker::{Worked, worker_turn};
+pub use worker::{HandPut, Worked, worker_turn};

@@ -10,7 +10,7 @@ use crate::giving::put_ticket;
 use crate::worker::{Worked, turn_of};
 use common::{Clock, Front, Gated, Hand, HeavyMarks, Own, Shared, Timing};
 use log::Log;
-use ready::{AllBusy, ReadyQueue, Ticket};
+use ready::{AllBusy, Full, ReadyQueue, Ticket};
 use sizes::{FIRST_LIGHT, OWN_BUDGET, ServerFault};
 use std::sync::Wait;
 
@@ -28,24 +28,31 @@ enum Stay {
 /// Puts the tickets in hand that the poller's thread leaves to the workers. These are the heavy tickets. If workers run
 /// light tickets, too, the light ones after the first 16 are also put, once a worker's end of the ready queue is found
 /// asleep: while none sleeps, all workers may be at work on much larger turns. All other tickets stay in hand, in
-/// order, and so do those that the queue refuses.
-pub fn share_tickets<R: Wait>(rt: &R, shares_light: bool, own: &mut Own, heavy: &mut HeavyMarks)
+/// order, and so do those that the queue refuses. Some: the queue was full.
+pub fn share_tickets<R: Wait>(
+    rt: &R,
+    shares_light: bool,
+    own: &mut Own,
+    heavy: &mut HeavyMarks,
+) -> Option<Full<Ticket>>
     requires idle { HoldsNothing own.old.seat }
-    ensures shared { TicketsShared heavy.old heavy.new own.old own.new }
+    ensures shared { TicketsShared result heavy.old heavy.new own.old own.new }
 {
+    let mut full = None;
     let mut kept = 0;
     let mut asleep = false;
     for _ticket in 0..own.hand.tickets() {
         let Some(ticket) = own.hand.take_ticket() else {
-            return;
+            return full;
         };
         if let Some(stay) = stays(&own.ready, shares_light, heavy, ticket, kept, &mut asleep) {
             keep(&mut own.hand, ticket, kept, shares_light, stay);
             kept += 1;
         } else {
-            put_ticket(rt, &mut (), own, ticket);
+            full = put_ticket(rt, &mut (), own, ticket).or(full);
         }
     }
+    full
 }
 
 /// Why a ticket stays in hand. None: it is put. `kept` tickets have stayed before it. `asleep`: an end of the queue was

@@ -11,7 +11,7 @@ use claims::{Claimed, Posted, Released};
 use common::{Clock, Front, Gated, Moves, Own, Shared, Timing, give_slots, put_tickets};
 use engine::Turn;
 use log::Log;
-use ready::Ticket;
+use ready::{Full, Ticket};
 use relay_log::log_end;
 use sizes::ServerFault;
 use std::sync::Wait;
@@ -29,6 +29,13 @@ pub enum Worked {
     Again,
     /// No call is worth trying before the next report.
     Quiet,
+}
+
+/// What became of what was in hand before a worker's turn. Where it shows no full queue, nothing was left.
+#[derive(Drop)]
+pub struct HandPut {
+    pub tickets: Result<(), Full<Ticket>>,
+    pub slots: Result<(), Full<usize>>,
 }
 
 /// Runs one turn of the connection that a ticket names.
@@ -53,22 +60,22 @@ pub fn worker_turn<F: Front, A: Gated<F, G>, G, C: Clock, R: Wait + Log>(
     gate: &G,
     ticket: Ticket,
     timing: &Timing<'_, C>,
-) -> Result<Worked, ServerFault>
+) -> (HandPut, Result<Worked, ServerFault>)
     requires rest { AtRest shared.now.claims own.old }
     requires room { HasRoom own.old.hand }
     ensures rest { AtRest shared.now.claims own.new }
     ensures made { WorkerTurn (Handling A.found A.played A.moved A.made)
         (PlaysAt (IsServed F.Client.told F.Client.does) (IsServed F.Target.told F.Target.does)
         (C.tells timing.now.clock.now) shared.now.budget timing.now.limit)
-        shared.now.claims.words ticket result own.old own.new acts.old acts.new }
-    ensures worn { IfErr result (λ fault. OnlyWorn fault own.new.seat) }
-    ensures woken { result ≡ Ok Worked.Ended → F.woke shared.now.waker ticket.slot }
+        shared.now.claims.words ticket result.0 result.1 own.old own.new acts.old acts.new }
+    ensures worn { IfErr result.1 (λ fault. OnlyWorn fault own.new.seat) }
+    ensures woken { result.1 ≡ Ok Worked.Ended → F.woke shared.now.waker ticket.slot }
 {
-    put_tickets(rt, &mut own.ready, &mut own.hand);
-    give_slots(rt, &mut own.free, &mut own.hand);
+    let tickets = put_tickets(rt, &mut own.ready, &mut own.hand);
+    let slots = give_slots(rt, &mut own.free, &mut own.hand);
     let turn = turn_of(rt, acts, shared, own, gate, ticket, shared.budget, timing);
     wake_if_ended(shared, own, ticket, turn);
-    turn.ok_or(ServerFault::Worn)
+    (HandPut { tickets, slots }, turn.ok_or(ServerFault::Worn))
 }
 
 /// A turn alone: nothing in hand is put before it, and nobody is woken after it. None: the seat had posted 2^56 times
@@ -231,7 +238,7 @@ fn leave<F: Front, A: Moves<F>, R: Wait>(
 {
     back.spend();
     match acts.release(&shared.claims, &mut own.seat, ticket.slot) {
-        Released::Wake => put_ticket(rt, acts, own, ticket),
+        Released::Wake => drop(put_ticket(rt, acts, own, ticket)),
         Released::Quiet => {}
     }
 }

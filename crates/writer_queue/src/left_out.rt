@@ -1,7 +1,8 @@
 //! How many lines found the queue full.
 ghost use Rattle.writer_queue.specs.Steps.{CountStep, Added, Taken};
 
-use ready::{Full, Put};
+use ready::Put;
+use std::convert::Infallible;
 use std::sync::Wait;
 use std::sync::atomic::{AtomicU64, Ordering};
 
@@ -47,9 +48,11 @@ pub(crate) struct Counted<'a, C>(pub(crate) &'a C);
 impl<C: Count> Put<()> for Counted<'_, C> {
     ghost did_put = { λ old _ _. C.did Added old.0.now };
 
-    ghost refused = { λ _ _. ⊥ };
+    ghost refused = { λ _ _ _ _. ⊥ };
 
-    fn put<R: Wait>(&mut self, _rt: &R, _line: ()) -> Result<(), Full<()>> {
+    type Refused = Infallible;
+
+    fn put<R: Wait>(&mut self, _rt: &R, _line: ()) -> Result<(), Infallible> {
         self.0.add();
         Ok(())
     }

@@ -6,7 +6,7 @@ ghost use Rattle.writer_queue.specs.Steps.{Added};
 
 use crate::left_out::{Count, Counted};
 use crossbeam_queue::ArrayQueue;
-use ready::{Drained, Full, IdleEnds, Put, Source, Spent};
+use ready::{Drained, EndNumber, IdleEnds, Put, Source, Spent};
 use std::marker::Model;
 use std::sync::Wait;
 use std::time::Duration;
@@ -18,6 +18,7 @@ use std::time::Duration;
 pub struct ParkedQueue<T: Drop, const QUEUES: usize> {
     queues: [ArrayQueue<T>; QUEUES],
     ends: IdleEnds,
+    writer: EndNumber,
 }
 
 /// What a writer does with the items.
@@ -58,13 +59,12 @@ struct Back<'a, T: Drop>(&'a ArrayQueue<T>);
 impl<T: Drop> Put<T> for Back<'_, T> {
     ghost did_put = { λ _ _ _. Unit {0} };
 
-    ghost refused = { λ _ _. Unit {0} };
+    ghost refused = { λ _ _ _ _. Unit {0} };
 
-    fn put<R: Wait>(&mut self, rt: &R, item: T) -> Result<(), Full<T>> {
-        match self.0.push(rt, item) {
-            Ok(()) => Ok(()),
-            Err(item) => Err(Full(item)),
-        }
+    type Refused = T;
+
+    fn put<R: Wait>(&mut self, rt: &R, item: T) -> Result<(), T> {
+        self.0.push(rt, item)
     }
 }
 
@@ -81,18 +81,20 @@ impl<W: Drain, Q: Line> Source for Drains<'_, '_, W, Q> {
 
     ghost found = { λ _ _ _. Unit {0} };
 
-    ghost held_none = { λ d. All Q.was_empty d.queues.now };
+    ghost held_none = { λ d _. All Q.was_empty d.queues.now };
 
     /// Whether the drain found items.
     type Found = Result<bool, W::Error>;
 
     type State = ();
 
-    fn look<R: Wait>(&mut self, _rt: &R) -> Option<Result<bool, W::Error>> {
+    type Nothing = ();
+
+    fn look<R: Wait>(&mut self, _rt: &R) -> Result<Result<bool, W::Error>, ()> {
         let drained = self.writer.drain();
         match drained {
-            Ok(false) if are_empty(self.queues) => None,
-            found => Some(found),
+            Ok(false) if are_empty(self.queues) => Err(()),
+            found => Ok(found),
         }
     }
 }
@@ -113,9 +115,11 @@ impl<T: Drop, const QUEUES: usize> ParkedQueue<T, QUEUES> {
     pub fn new(queues: [ArrayQueue<T>; QUEUES]) -> ParkedQueue<T, QUEUES>
         ensures { result ≡ map queue_capacity queues }
     {
+        let (ends, mut numbers) = IdleEnds::new();
         ParkedQueue {
             queues,
-            ends: IdleEnds::new(),
+            ends,
+            writer: numbers.next(),
         }
     }
 
@@ -133,7 +137,7 @@ impl<T: Drop, const QUEUES: usize> ParkedQueue<T, QUEUES> {
     {
         match self.ends.put(rt, &mut Counted(count), ()) {
             Ok(spent) => spent,
-            Err(_) => unreachable!(),
+            Err(never) => match never {},
         }
     }
 
@@ -162,8 +166,8 @@ impl<T: Drop, const QUEUES: usize> ParkedQueue<T, QUEUES> {
             queues: &self.queues,
         };
         for _look in rt.forever() {
-            match self.ends.take(rt, 0, &mut drains) {
-                Ok(Ok(true)) => self.ends.rest(rt, 0, rest),
+            match self.ends.take(rt, &self.writer, &mut drains) {
+                Ok(Ok(true)) => self.ends.rest(rt, &self.writer, rest),
                 Ok(Ok(false)) => {}
                 Ok(Err(fault)) => return Err(fault),
                 Err(drained) => return Ok(drained),

@@ -9,4 +9,4 @@ unreachable-requires g c =
 
 pub loop-index-preserved : goal.loop-index-preserved
 loop-index-preserved g c =
-    let put = c.in-Ok.ensures.put in (put.1 ∙ c.loop-index.invariant.0, next_slot _ c.loop-index.index _ _ c.loop-index.invariant.1 put.0)
+    let put = c.in-Ok.ensures.put in (put.1.1 ∙ c.loop-index.invariant.0, next_slot _ c.loop-index.index _ _ c.loop-index.invariant.1 put.0)

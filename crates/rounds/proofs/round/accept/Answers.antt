@@ -1,5 +1,5 @@
-use Rattle.std.proofs.Common.{◌∙◌, inl, inr, refl, arith}
-use Rattle.rounds.proofs.Rounds.{accept_and_took, accept_both, accept_took, done_of, no_tries, answered_both, answered_none, between_still, room_same}
+use Rattle.std.proofs.Common.{◌∙◌, inl, inr, refl, sym, arith}
+use Rattle.rounds.proofs.Rounds.{accept_and_took, accept_both, accept_took, done_of, no_tries, answered_both, answered_none, between_still, by_err, room_same}
 use Rattle.rounds.proofs.round.accept.Goals as goal
 
 pub loop-try-init : goal.loop-try-init
@@ -20,14 +20,14 @@ accept_next-requires-clause-between g c = between_still c.loop-try.invariant.bet
 pub accept_next-requires-clause-room : goal.accept_next-requires-clause-room
 accept_next-requires-clause-room g c = omega (arith, c.loop-try.invariant.room, room_same c.may_accept.ensures.took, c.loop-try-test.true)
 
-pub returns-then-not-may_accept : goal.returns-then-not-may_accept
-returns-then-not-may_accept g c =
+pub returns-then-is_err : goal.returns-then-is_err
+returns-then-is_err g c =
     let before = c.loop-try.invariant in
     let took = c.may_accept.ensures.took in
     record {
       between = between_still before.between took.seat refl;
       done = accept_and_took before.done took;
-      ended = inl (inr (c.may_accept.ensures.ended c.if-not-may_accept.true));
+      ended = inl (inr (by_err _ c.may_accept.ensures.ended (sym c.is_err.ensures.value ∙ c.if-is_err.true)));
       still = λ is. took.seat ∙ before.still is;
       answered = before.answered;
     }

@@ -5,8 +5,8 @@ use Rattle.turns.proofs.worker.worker_turn.Goals as goal
 
 pub returns-clause-made : goal.returns-clause-made
 returns-clause-made g c =
-    let put = c.put_tickets.ensures in
-    let gave = c.give_slots.ensures in
+    let put = c.put_tickets-tickets.ensures in
+    let gave = c.give_slots-slots.ensures in
     record {
       begun = _;
       put = record {

@@ -1,5 +1,5 @@
 use Rattle.std.proofs.{Common.arith, lemmas.Grind.common_steps}
 use Rattle.ready.proofs.queue.ReadyQueue.new.Goals as goal
 
-pub loop-number-preserved : goal.loop-number-preserved
-loop-number-preserved c = grind (arith, common_steps)
+pub loop-end-preserved : goal.loop-end-preserved
+loop-end-preserved c = grind (arith, common_steps)

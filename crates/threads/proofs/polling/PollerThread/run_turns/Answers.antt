@@ -6,9 +6,10 @@ use Rattle.threads.proofs.polling.PollerThread.run_turns.Goals as goal
 
 pub loop-turn-init : goal.loop-turn-init
 loop-turn-init g c = record {
+  full = c.share_tickets.result;
   heavy = c.share_tickets.new.heavy;
   shared = c.share_tickets.new.own;
-  sharing = subst (λ (s : PollerState). TicketsShared s.heavy c.share_tickets.new.heavy c.args.self.now.own c.share_tickets.new.own) c.poller.view_is
+  sharing = subst (λ (s : PollerState). TicketsShared c.share_tickets.result s.heavy c.share_tickets.new.heavy c.args.self.now.own c.share_tickets.new.own) c.poller.view_is
       c.share_tickets.ensures.shared;
   turns = own_none;
   poller = ap (λ (s : PollerState). record s { heavy = c.share_tickets.new.heavy }) c.poller.view_is;

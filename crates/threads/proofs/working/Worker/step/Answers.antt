@@ -11,18 +11,18 @@ pub returns-in_err-ticket-clause-cut : goal.returns-in_err-ticket-clause-cut
 returns-in_err-ticket-clause-cut g c =
     let p = err_from_is_err_and c.from_residual-in_err-ticket.result c.from_residual-in_err-ticket.ensures.1 in
     let took = c.in_err-ticket.ensures in
-    rw (p.1, p.2, took.none, took.closed.0) (worker_ends c.put_hand.ensures.ran (rw took.none at took.closed.1))
+    rw (p.1, p.2, took.none, took.closed.1) (worker_ends c.put_hand-put.ensures.ran (rw took.none at took.closed.2))
 
 pub returns-in-Ok-turn-clause-ran : goal.returns-in-Ok-turn-clause-ran
-returns-in-Ok-turn-clause-ran g c = worker_both c.put_hand.ensures.ran
+returns-in-Ok-turn-clause-ran g c = worker_both c.put_hand-put.ensures.ran
     (worker_one _ c.in_ok-ticket.ensures.taken (rw c.in-Ok.ensures.ticket at c.in-Ok-turn.ensures.ran) c.turn.ensures.took)
 
 pub returns-in-Err-turn-clause-cut : goal.returns-in-Err-turn-clause-cut
 returns-in-Err-turn-clause-cut g c =
     let cut = c.in-Err-turn.ensures in
-    rw c.met.ensures (worker_ends (worker_both c.put_hand.ensures.ran
+    rw c.met.ensures (worker_ends (worker_both c.put_hand-put.ensures.ran
     (worker_one _ c.in_ok-ticket.ensures.taken (rw c.in-Ok.ensures.ticket at cut.ran) cut.took)) cut.worn)
 
 pub returns-in-Err-clause-cut : goal.returns-in-Err-clause-cut
 returns-in-Err-clause-cut g c =
-    worker_then_ends c.put_hand.ensures.ran (worker_kept _ c.in_ok-ticket.ensures.taken c.in-Err.ensures.found c.keep_ticket.ensures)
+    worker_then_ends c.put_hand-put.ensures.ran (worker_kept _ c.in_ok-ticket.ensures.taken c.in-Err.ensures.found c.keep_ticket.ensures)
