@@ -1,5 +1,5 @@
 // The queue of tickets.
-ghost use Rattle.std.specs.Prelude.{◌≡◌, ◌≤◌, IfOk, OnOk, IfErr, OnErr, replicate};
+ghost use Rattle.std.specs.Prelude.{◌≡◌, ◌≤◌, IfOk, OnOk, IfErr, OnErr};
 ghost use Rattle.ready.specs.Steps.{AreNew, IsStill, PutOne, TookOne, QueueEnd, look_of};
 ghost use Rattle.ready.specs.declared.ticket.Ticket.{Ticket};
 
