@@ -211,8 +211,16 @@ module _ {X : Type 0} {was full : Option X} {stayed : ℕ} {heavy : List ℕ} {t
   pub passed_moves : (p : Option X) → full ≡ option_or p was → (Stays stayed heavy t → ⊥) → then ≡ stayed → new ≡ o → Passed p t (record old { hand = left }) o
       → o.seat ≡ old.seat → o.free ≡ old.free → OneMoved was full stayed heavy t old left then new
   passed_moves p same goes stay is (inl put) seat free =
-      rw is (record { behind = []; one = inr (goes, stay, inl (put.0, refl)); still = λ s. rw same (or_second p was s);
-        hand = rw append-nil put.1; few = omega arith; took = rw put.0.put.put; seat = seat; free = free })
+      rw is (record {
+        behind = [];
+        one = inr (goes, stay, inl (put.0, refl));
+        still = λ s. rw same (or_second p was s);
+        hand = rw append-nil put.1;
+        few = omega arith;
+        took = rw put.0.put.put;
+        seat = seat;
+        free = free;
+      })
   passed_moves p same goes stay is (inr refused) seat free =
       rw is (record {
         behind = t ∷ [];
