@@ -13,8 +13,8 @@ pub const VERSION: &str = "0.1.0";
 pub enum Command<'a> {
     /// Run the script on standard input, and show each step if `each`.
     Simulate { each: bool },
-    /// Read this settings file and print what it sets.
-    Check(&'a str),
+    /// Print the settings of such a relay, and look whether it can be started.
+    Check(Relay<'a>),
     /// Serve.
     Serve(Relay<'a>),
     /// Replay the recording in a file.
@@ -81,12 +81,12 @@ fn command_of<'a>(alloc: Global, matches: &ArgMatches<'a>) -> Result<Command<'a>
         return Ok(Command::Simulate { each: false });
     };
     Ok(match name {
-        "forward" => relay_of(Source::Arguments(settings_text(alloc, matches)?), matches),
-        "run" => relay_of(
-            Source::File(needed(matches, "config"), matches.get_str("log")),
-            matches,
-        ),
-        "check" => Command::Check(needed(matches, "config")),
+        "forward" => {
+            let settings = Source::Arguments(settings_text(alloc, matches)?);
+            Command::Serve(relay_of(settings, matches))
+        }
+        "run" => Command::Serve(relay_of(file_of(matches), matches)),
+        "check" => Command::Check(relay_of(file_of(matches), matches)),
         "replay" => Command::Replay(replay_of(matches)),
         _ => Command::Simulate {
             each: matches.get_flag("each"),
@@ -99,13 +99,17 @@ fn needed<'a>(matches: &ArgMatches<'a>, name: &str) -> &'a str {
     matches.get_str(name).unwrap_or("")
 }
 
-fn relay_of<'a>(settings: Source<'a>, matches: &ArgMatches<'a>) -> Command<'a> {
-    Command::Serve(Relay {
+fn file_of<'a>(matches: &ArgMatches<'a>) -> Source<'a> {
+    Source::File(needed(matches, "config"), matches.get_str("log"))
+}
+
+fn relay_of<'a>(settings: Source<'a>, matches: &ArgMatches<'a>) -> Relay<'a> {
+    Relay {
         settings,
         record: matches.get_str("record"),
         stats_file: matches.get_str("stats-file"),
         extras: extras_of(matches),
-    })
+    }
 }
 
 fn extras_of<'a>(matches: &ArgMatches<'a>) -> TypedExtras<'a> {

@@ -193,12 +193,12 @@ static COMMANDS: [CommandRow; 5] = [
         about: "Reads a settings file and prints every setting, or what is wrong",
         details: "Prints a line KEY=VALUE for each setting, defaults included. If the file has a fault, the first one \
             is written to standard error, with its key if it has one, and the status is 1. Warns of what `relayd \
-            run` would warn of at its start.\n\n\
+            run` with the same options would warn of at its start.\n\n\
             Example:\n  relayd check --config examples/relayd.toml\n\n\
             See relayd.toml(5) for the settings.",
         takes_settings: false,
-        arguments: &[CONFIG],
-        is_relay: false,
+        arguments: &[CONFIG, LEVEL],
+        is_relay: true,
     },
     CommandRow {
         name: "sim",
@@ -237,12 +237,33 @@ pub(crate) fn relay_arguments() -> &'static [ArgumentRow] {
     &RELAY
 }
 
-/// Whether `relayd forward` takes a value after the option of this name.
-pub(crate) fn takes_value(option: &str) -> bool {
-    for row in relay_arguments() {
-        if row.name == option {
-            return !matches!(row.form, Form::Flag(_));
+pub(crate) fn is_command(name: &str) -> bool {
+    name == "help" || commands().iter().any(|row| row.name == name)
+}
+
+/// The form of the option of this name of any command, if it is no setting.
+pub(crate) fn form_of(option: &str) -> Option<Form> {
+    for command in commands() {
+        if let Some(form) = form_in(command.arguments, option) {
+            return Some(form);
         }
     }
-    is_setting(option)
+    form_in(relay_arguments(), option)
+}
+
+fn form_in(rows: &[ArgumentRow], option: &str) -> Option<Form> {
+    for row in rows {
+        if row.name == option {
+            return Some(row.form);
+        }
+    }
+    None
+}
+
+/// Whether a command takes a value after the option of this name.
+pub(crate) fn takes_value(option: &str) -> bool {
+    match form_of(option) {
+        Some(form) => !matches!(form, Form::Flag(_)),
+        None => is_setting(option),
+    }
 }

@@ -3,10 +3,11 @@
 use crate::command_line::read_command;
 use crate::tips::find_tip;
 use clap::Error;
-use settings::ShownCharacter;
+use settings::{ShownCharacter, is_unseen};
 use std::alloc::{AllocError, Global};
 use std::fmt;
 use std::io::Write;
+use strsim::osa_distance;
 
 /// The most columns of a line of help.
 const COLUMNS: usize = 80;
@@ -25,11 +26,12 @@ pub fn print_answer(
     Ok(write!(writer, "{text}").is_ok() && writer.flush().is_ok())
 }
 
-/// Prints why arguments are refused. If one has control characters, the parser is asked again, with these escaped.
+/// Prints why arguments are refused. If one has characters that nobody sees, the parser is asked again, with these
+/// escaped.
 pub fn print_refused(alloc: Global, arguments: &[String], error: &Error, errors: &mut impl Write) {
     if arguments
         .iter()
-        .any(|argument| has_control(argument.as_str()))
+        .any(|argument| has_unseen(argument.as_str()))
     {
         if let Ok(escaped) = escape_all(alloc, arguments) {
             if let Err(error) = read_command(alloc, escaped.as_slice()) {
@@ -41,8 +43,8 @@ pub fn print_refused(alloc: Global, arguments: &[String], error: &Error, errors:
     print_error(alloc, error, arguments, errors);
 }
 
-fn has_control(text: &str) -> bool {
-    text.chars().any(|character| character.is_control())
+fn has_unseen(text: &str) -> bool {
+    text.chars().any(|character| is_unseen(character))
 }
 
 fn escape_all(alloc: Global, arguments: &[String]) -> Result<Vec<String>, AllocError> {
@@ -80,28 +82,31 @@ fn print_error(alloc: Global, error: &Error, arguments: &[String], errors: &mut 
         return;
     };
     let refused = why.split('\'').nth(1).unwrap_or("");
-    let _ = match (find_tip(error.kind(), refused, arguments), own) {
-        (Some(tip), _) => write!(errors, "{why}\n\n  tip: {tip}\n\n{rest}"),
-        (None, Some(tip)) => write!(errors, "{why}\n\n{tip}\n\n{rest}"),
-        (None, None) => write!(errors, "{why}\n\n{rest}"),
+    let _ = match find_tip(alloc, error.kind(), refused, arguments) {
+        Some(tip) => write!(errors, "{why}\n\n  tip: {tip}\n\n{rest}"),
+        None if is_near(alloc, refused, own) => write!(errors, "{why}\n\n{own}\n\n{rest}"),
+        None => write!(errors, "{why}\n\n{rest}"),
     };
 }
 
+/// Whether the parser's tip names, as the last word in it, one that is near to the refused one. So that is no tip to
+/// pass an argument as a value, since no value looks like an option.
+fn is_near(alloc: Global, refused: &str, tip: &str) -> bool {
+    let Some(named) = tip.rsplit('\'').nth(1) else {
+        return false;
+    };
+    matches!(osa_distance(alloc, refused, named), Ok(0..=2))
+}
+
 /// The parts of what the parser says, whose errors have no data but their kind: the first paragraph, which is why
-/// arguments are refused; the first of its tips, but not one to pass an argument as a value, since no value looks like
-/// an option; and what comes after these.
-fn parts_of(text: &str) -> Option<(&str, Option<&str>, &str)> {
+/// arguments are refused; the first of its tips, if it has any; and what comes after these.
+fn parts_of(text: &str) -> Option<(&str, &str, &str)> {
     let (why, rest) = text.split_once("\n\n")?;
     match rest.split_once("\n\n") {
         Some((tips, rest)) if tips.starts_with("  tip:") => {
-            let tip = tips.split('\n').next();
-            Some((
-                why,
-                tip.filter(|tip| !tip.starts_with("  tip: to pass '")),
-                rest,
-            ))
+            Some((why, tips.split('\n').next()?, rest))
         }
-        _ => Some((why, None, rest)),
+        _ => Some((why, "", rest)),
     }
 }
 

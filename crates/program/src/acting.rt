@@ -3,16 +3,15 @@ ghost use Rattle.std.specs.Prelude.{◌≡◌, ◌≢◌, ◌⊎◌, false, IsTr
 ghost use Rattle.clap.specs.Values.{kind_of};
 ghost use Rattle.program.specs.Faults.{IsCarriedOut, status_of};
 
-use crate::config;
 use crate::faults::{ArgumentsFault, DONE, FAULT, ProgramFault, USAGE};
 use crate::logging::direct_log;
 use crate::replaying_file::replay;
-use crate::running::{Given, run};
-use crate::starting::{foresee, look_at_addresses};
+use crate::running::{Given, read, run};
+use crate::starting::{foresee, look_at_addresses, warn_of_short_time};
 use crate::streams::{LoggedCauses, log_error, stream_named, write};
 use clap::Error;
 use clap::error::ErrorKind;
-use commands::{Command, print_answer, print_refused, read_command};
+use commands::{Command, Relay, print_answer, print_refused, read_command};
 use input::{Outcome, Replay, Simulate};
 use log::{LevelFilter, Log};
 use settings::Settings;
@@ -153,7 +152,7 @@ where
         Command::Simulate { each } => {
             simulate_on(rt.alloc(), log, each, simulator, reader, writer)
         }
-        Command::Check(path) => check(rt, log, path, writer),
+        Command::Check(relay) => check(rt, log, &relay, writer),
         Command::Serve(relay) => run(rt, log, &relay, serve),
         Command::Replay(replayed) => replay(rt, log, replayed, writer, player),
     }
@@ -162,15 +161,16 @@ where
 fn check<R, L: Log, O: Write>(
     rt: &R,
     log: &L,
-    path: &str,
+    relay: &Relay<'_>,
     writer: &mut O,
 ) -> Result<u8, ProgramFault>
 where
     R: AllocGlobal + Files + Eprint + Net + Copy + Drop,
     ensures done { IfOk result (λ status. status ≡ 0) }
-    ensures fault { IfErr result (λ fault. status_of fault ≡ 1) }
+    ensures unwritten { IfErr result (λ fault. status_of fault ≡ 2 → O.contents writer.new ≡ O.contents writer.old) }
 {
-    let settings = config::load(rt, log, path, None)?;
+    let (settings, extras) = read(rt, log, relay, None)?;
+    warn_of_short_time(log, settings.idle, extras.patience);
     look_at_addresses(log, &settings)?;
     foresee(rt, log, &settings)?;
     print(

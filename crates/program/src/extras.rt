@@ -138,6 +138,8 @@ fn log_wrong(log: &impl Log, option: NumberOption, text: &str) {
     let name = format_args!("options: --{option} {word}");
     if has_leading_zero(text) {
         log_error(log, &name, &format_args!("{text} has a leading zero"));
+    } else if matches!(text, "0" | "off" | "no" | "never") {
+        log_error(log, &name, &"leave the option out");
     } else if let Some(bare) = option.unit().without(text, least, most) {
         log_error(log, &name, &bare);
     } else {

@@ -224,6 +224,9 @@ fn place_at<R: Files>(rt: &R, path: &str) -> Result<Place<R::File>, Unmade>
 where
     R::File: AsRawFd,
 {
+    if path == "-" {
+        return Err(Unmade::Taken("for standard output write /dev/stdout"));
+    }
     let found = match fs::metadata(rt, path) {
         Ok(found) => found,
         Err(error) if error.kind() == ErrorKind::NotFound => return nothing_at(rt, path),

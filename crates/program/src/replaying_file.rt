@@ -7,7 +7,7 @@ use crate::streams::{FileName, Stream, Unopened, log_error, log_text, stream_nam
 use commands::Replayed;
 use input::{Judged, MAX_SCRIPT, Replay, ReplayFault, Wanted};
 use log::{Level, Log};
-use settings::has_leading_zero;
+use settings::{TypedWord, has_leading_zero};
 use std::fs::{self, File};
 use std::io::{self, Write};
 use std::rt::Files;
@@ -152,17 +152,14 @@ fn other_words(first: &[u8; 17]) -> Option<&'static str> {
 fn find_wanted(log: &impl Log, replayed: Replayed<'_>) -> Result<Wanted, ProgramFault>
     ensures { IfErr result (λ fault. (fault ≡ ProgramFault.Connection) ⊎ (fault ≡ ProgramFault.Timeline)) }
 {
-    let cause = "a slot and a generation are wanted, as in 3.1";
     if let Some(name) = replayed.script {
-        let Some((slot, generation)) = connection_named(name) else {
-            log_error(log, &"options: --script", &cause);
+        let Some((slot, generation)) = connection_in(log, "script", name) else {
             return Err(ProgramFault::Connection);
         };
         return Ok(Wanted::Script(slot, generation));
     }
     if let Some(name) = replayed.timeline {
-        let Some((slot, generation)) = connection_named(name) else {
-            log_error(log, &"options: --timeline", &cause);
+        let Some((slot, generation)) = connection_in(log, "timeline", name) else {
             return Err(ProgramFault::Timeline);
         };
         return Ok(Wanted::Timeline(slot, generation));
@@ -179,6 +176,21 @@ fn wanted_of_all(replayed: Replayed<'_>) -> Wanted {
     } else {
         Wanted::Totals
     }
+}
+
+/// The slot and the generation that an option's value names. Logs what is wanted if it names none.
+fn connection_in(log: &impl Log, option: &'static str, name: &str) -> Option<(usize, u64)> {
+    let named = connection_named(name);
+    if named.is_none() {
+        let word = TypedWord(name);
+        let option = format_args!("options: --{option} {word}");
+        log_error(
+            log,
+            &option,
+            &"a slot and a generation are wanted, as in 3.1",
+        );
+    }
+    named
 }
 
 /// The slot and the generation that `S.G` names.

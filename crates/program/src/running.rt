@@ -10,7 +10,7 @@ use crate::recording_file::{RecordFiles, create, find_place};
 use crate::starting::{
     log_start, look_at_addresses, prepare, print_listening, warn_of_short_time, warn_of_silence,
 };
-use crate::stats_file::{Replacing, StatsFile, find_file};
+use crate::stats_file::{Replacing, StatsFile, find_file, look_apart};
 use crate::telling::{self, Teller};
 use crate::{config, until_eof};
 use commands::{Relay, Source};
@@ -78,11 +78,24 @@ where
 {
     // First: a file that is opened before may get the number of a socket that is not there.
     let passed = passed_socket(rt, log)?;
-    let extras = extras_of(log, relay.extras)?;
-    let settings = settings_of(rt, log, &relay.settings, address_of(&passed))?;
-    warn_of_silence(log, settings.log, &extras, relay.stats_file.is_some());
+    let (settings, extras) = read(rt, log, relay, address_of(&passed))?;
     let log = direct_log(rt, starting_filter(settings.log));
     make(rt, &log, relay, settings, extras, passed)
+}
+
+/// The settings and the options of a relay to which a socket at an address was passed, if it was. Warns and refuses by
+/// these alone.
+pub(crate) fn read<R: AllocGlobal + Files, L: Log>(
+    rt: &R,
+    log: &L,
+    relay: &Relay<'_>,
+    passed: Option<SocketAddrV4>,
+) -> Result<(Settings, Extras), ProgramFault> {
+    let extras = extras_of(log, relay.extras)?;
+    let settings = settings_of(rt, log, &relay.settings, passed)?;
+    warn_of_silence(log, settings.log, &extras, relay.stats_file.is_some());
+    look_apart(log, relay)?;
+    Ok((settings, extras))
 }
 
 fn make<R>(

@@ -5,6 +5,8 @@ ghost use Rattle.program.specs.Faults.{status_of};
 
 use crate::faults::ProgramFault;
 use crate::recording_file::{EISDIR, Unmade, first_bytes, refused};
+use crate::streams::{FileName, log_error};
+use commands::Relay;
 use log::Log;
 use std::alloc::{AllocError, AllocGlobal};
 use std::fs::{self, OpenOptions};
@@ -35,6 +37,21 @@ impl<R: Files> Replacing for R {
         }
         replaced
     }
+}
+
+/// Refuses with `StatsFile`, and logs the cause, a file that is one of `--record`, which it would replace.
+pub(crate) fn look_apart(log: &impl Log, relay: &Relay<'_>) -> Result<(), ProgramFault> {
+    let (Some(record), Some(path)) = (relay.record, relay.stats_file) else {
+        return Ok(());
+    };
+    let rest = path
+        .trim_start_matches("./")
+        .strip_prefix(record.trim_start_matches("./"));
+    if rest == Some("") || rest == Some(".old") && relay.extras.record_size.is_some() {
+        log_error(log, &FileName("stats-file", path), &"is a file of --record");
+        return Err(ProgramFault::StatsFile);
+    }
+    Ok(())
 }
 
 /// The file at a path, if one is given. Refuses with `StatsFile`, and logs the cause, if it cannot be replaced: nothing
@@ -77,6 +94,10 @@ fn name_beside<R: AllocGlobal + Files>(rt: &R, path: &str) -> Result<String, All
 
 /// Refuses what is at a path, unless that is nothing, a file without bytes, or one of statistics.
 fn look_at(rt: &impl Files, path: &str) -> Result<(), Unmade> {
+    let port = path.rsplit(':').next().unwrap_or("");
+    if path == "-" || port.len() < path.len() && port.parse::<u16>().is_ok() {
+        return Err(Unmade::Taken("a file is wanted, which a monitor reads"));
+    }
     let found = match fs::metadata(rt, path) {
         Ok(found) => found,
         Err(error) if error.kind() == ErrorKind::NotFound && !path.is_empty() => return Ok(()),

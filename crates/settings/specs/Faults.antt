@@ -1,12 +1,19 @@
 -- The line for a settings fault.
-use Rattle.std.specs.{Prelude.{ℕ, List, [], ◌++◌, ◌-◌, false, length, take, drop, codes, if◌then◌else◌, nat_lt, encode_utf8}, Char.is_control, Fmt.digits, List.flat_map, Str.chars}
+use Rattle.std.specs.{Prelude.{ℕ, List, [], ◌++◌, ◌-◌, ◌==◌, ◌&&◌, ◌||◌, Bool, false, not, length, take, drop, codes, if◌then◌else◌, nat_lt, nat_le, encode_utf8}, Char.{is_control, is_whitespace}, Fmt.digits, List.flat_map, Str.chars}
 use Rattle.settings.specs.{Table.key_name, declared.faults.SettingsFault.{SettingsFault, TheVariants.{NotToml, UnknownKey, Missing, WrongKind, OutOfRange, BadAddress, NoMemory}}}
 
 -- How a text from outside, such as a key that a person wrote, is shown within a line.
 
--- a control character by its number, as `\u{a}`, and any other as itself
+-- a character that nobody sees as itself: a control character, a blank other than the space, and what has no width
+-- (U+00AD, U+200B to U+200F, U+202A to U+202E, U+2060 to U+206F, and U+FEFF)
+abbrev pub is_unseen : ℕ → Bool
+is_unseen c =
+    is_control c || ((is_whitespace c && not (c == 32)) || ((c == 173 || c == 65279) ||
+    ((nat_le 8203 c && nat_le c 8207) || ((nat_le 8234 c && nat_le c 8238) || (nat_le 8288 c && nat_le c 8303)))))
+
+-- a character that is not seen by its number, as `\u{a}`, and any other as itself
 abbrev pub shown_character : ℕ → List ℕ
-shown_character c = if is_control c then codes "\\u{" ++ (digits 16 false c ++ codes "}") else encode_utf8 c
+shown_character c = if is_unseen c then codes "\\u{" ++ (digits 16 false c ++ codes "}") else encode_utf8 c
 
 -- what stands for the characters that are left out of this many: `..` if there are over 64
 abbrev pub dots : ℕ → List ℕ

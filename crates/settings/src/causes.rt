@@ -63,14 +63,19 @@ fn not_toml(alloc: Global, text: &str) -> Option<String> {
     if let Some(cause) = slip(alloc, text, line, rest) {
         return Some(cause);
     }
-    told(alloc, Place(Some(line)), said(error.message(), rest))
+    let wrong = line_of(text, line).trim();
+    told(alloc, Place(Some(line)), said(error.message(), wrong, rest))
 }
 
 /// What is wrong in a line that is not TOML, where `rest` begins. None if only the parser can say it, or there is no
 /// memory to find out.
 fn slip(alloc: Global, text: &str, line: usize, rest: &str) -> Option<String> {
     let place = Place(Some(line));
-    if rest.starts_with("//") {
+    if line_of(text, line).trim_end().contains('\r') {
+        let words = Wanted::Words("a line ends in LF, and not in CR alone", "", "");
+        return told(alloc, place, words);
+    }
+    if rest.starts_with("//") || rest.starts_with("/*") {
         let words = Wanted::Words("a comment begins with #", "", "");
         return told(alloc, place, words);
     }
@@ -78,6 +83,9 @@ fn slip(alloc: Global, text: &str, line: usize, rest: &str) -> Option<String> {
         return told(alloc, place, after_value(rest));
     }
     let (name, written) = line_of(text, line).split_once('=')?;
+    if written.starts_with('=') {
+        return told(alloc, place, Wanted::Words("one = is wanted", "", ""));
+    }
     let name = name.trim();
     match place_of(alloc, text, name)?.0 {
         Some(first) => twice(alloc, place, name, first),
@@ -95,12 +103,16 @@ fn no_value(alloc: Global, place: Place, key: Key, written: &str) -> Option<Stri
     not_taken(alloc, place, key, written, wanted)
 }
 
-/// What the parser says of the place where `rest` begins.
-fn said<'a>(message: &'a str, rest: &'a str) -> Wanted<'a> {
+/// What the parser says of the line `wrong`, in which `rest` begins.
+fn said<'a>(message: &'a str, wrong: &'a str, rest: &'a str) -> Wanted<'a> {
     if message.starts_with("unexpected key or value") && !rest.is_empty() {
         return after_value(rest);
     }
-    Wanted::Words(message, "", "")
+    let is_no_key = message.starts_with("invalid key") && !wrong.contains('=');
+    if is_no_key || message.starts_with("key with no value") {
+        return Wanted::Line(wrong, "KEY = VALUE is wanted");
+    }
+    Wanted::Line(wrong, message)
 }
 
 /// This follows a value.
@@ -210,12 +222,23 @@ fn refused(alloc: Global, text: &str, key: Key) -> Option<String> {
     let Ok(document) = toml::table_from_str(alloc, text) else {
         return None;
     };
-    refused_value(alloc, place, document.get(name)?, key)
+    refused_value(alloc, text, place, document.get(name)?, key)
 }
 
-fn refused_value(alloc: Global, place: Place, value: &Value, key: Key) -> Option<String> {
+fn refused_value(
+    alloc: Global,
+    text: &str,
+    place: Place,
+    value: &Value,
+    key: Key,
+) -> Option<String> {
     let typed = typed(alloc, value)?;
     let wanted = Wanted::in_place_of(value, typed.as_str(), key);
+    if let (true, Some(line)) = (value.is_float(), place.0) {
+        // Printed, `1e3` would be 1000.0.
+        let (_, written) = line_of(text, line).split_once('=')?;
+        return not_taken(alloc, place, key, value_in(written), wanted);
+    }
     let Ok(shown) = format!(in alloc; "{value}") else {
         return None;
     };

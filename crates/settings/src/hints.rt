@@ -1,6 +1,5 @@
 //! What is meant by what people type.
 
-use crate::levels::LogLevel;
 use crate::one_line::OneLine;
 use crate::table::{Key, ROWS};
 use std::alloc::{AllocError, Global};
@@ -36,12 +35,38 @@ fn is_option(name: &str, option: &str) -> bool {
     name.split(['_', '-']).eq(option.split('-'))
 }
 
-/// The key whose name is nearest to this one, if any is near.
+/// What other programs call a key.
+static KEYS: [(&str, Key); 6] = [
+    ("bind port", Key::Listen),
+    ("backend upstream dest destination", Key::Target),
+    ("threads", Key::Workers),
+    ("maxconn", Key::Slots),
+    ("buffer", Key::Ring),
+    ("timeout", Key::Idle),
+];
+
+/// What a word stands for in a table whose rows have several words, in capitals or not.
+fn meant<T: Copy>(word: &str, table: &[(&str, T)]) -> Option<T> {
+    for (words, value) in table {
+        if words
+            .split(' ')
+            .any(|typed| word.eq_ignore_ascii_case(typed))
+        {
+            return Some(*value);
+        }
+    }
+    None
+}
+
+/// The key that is meant by a name, or whose name is nearest to it, if any is near.
 pub(crate) fn key_near(alloc: Global, name: &str) -> Result<Option<Key>, AllocError> {
     let mut nearest = None;
     let mut least = 0.7;
     if name.len() > MAX_NAME {
         return Ok(None);
+    }
+    if let Some(key) = meant(name, &KEYS) {
+        return Ok(Some(key));
     }
     for row in &ROWS {
         if name.eq_ignore_ascii_case(row.name) {
@@ -56,24 +81,26 @@ pub(crate) fn key_near(alloc: Global, name: &str) -> Result<Option<Key>, AllocEr
     Ok(nearest)
 }
 
-/// Words that are typed for a level.
-static LEVELS: [(&str, LogLevel); 6] = [
-    ("none", LogLevel::Off),
-    ("err", LogLevel::Error),
-    ("warning", LogLevel::Warn),
-    ("notice", LogLevel::Info),
-    ("verbose", LogLevel::Debug),
-    ("all", LogLevel::Trace),
+/// Words that are typed for a level, and for a truth value.
+static LEVELS: [(&str, &str); 6] = [
+    ("off none", "off"),
+    ("error err", "error"),
+    ("warn warning", "warn"),
+    ("info notice", "info"),
+    ("debug verbose", "debug"),
+    ("trace all", "trace"),
 ];
+
+static TRUTHS: [(&str, &str); 2] = [("true yes on", "true"), ("false no off", "false")];
 
 /// The name of the level that is meant by a word that is none: in capitals, or another word.
 pub(crate) fn level_meant(word: &str) -> Option<&'static str> {
-    for (typed, level) in &LEVELS {
-        if word.eq_ignore_ascii_case(typed) || word.eq_ignore_ascii_case(level.name()) {
-            return Some(level.name());
-        }
-    }
-    None
+    meant(word, &LEVELS)
+}
+
+/// The truth value that is meant by a word that is none.
+pub(crate) fn truth_meant(word: &str) -> Option<&'static str> {
+    meant(word, &TRUTHS)
 }
 
 /// What a number counts that is often typed with a unit after it.
@@ -81,27 +108,26 @@ pub(crate) fn level_meant(word: &str) -> Option<&'static str> {
 pub enum Unit {
     Seconds,
     Bytes,
+    /// Anything else, in thousands.
+    Pieces,
 }
 
-/// The units that are typed, and how many seconds or bytes each is.
-static SECONDS: [(&str, u32); 8] = [
-    ("s", 1),
-    ("sec", 1),
-    ("m", 60),
-    ("min", 60),
+/// The units that are typed, and how many seconds, bytes or pieces each is.
+static SECONDS: [(&str, u32); 4] = [
+    ("s sec second seconds", 1),
+    ("m min", 60),
     ("h", 3_600),
     ("d", 86_400),
-    ("second", 1),
-    ("seconds", 1),
 ];
 
-static BYTES: [(&str, u32); 5] = [
+static BYTES: [(&str, u32); 4] = [
     ("b", 1),
-    ("k", 1_024),
-    ("kb", 1_024),
-    ("kib", 1_024),
-    ("m", 1_048_576),
+    ("k kb kib", 1_024),
+    ("m mb mib", 1_048_576),
+    ("g gb gib", 1_073_741_824),
 ];
+
+static PIECES: [(&str, u32); 1] = [("k", 1_000)];
 
 /// What follows the digits with which a text begins.
 pub(crate) fn after_digits(text: &str) -> &str {
@@ -113,26 +139,18 @@ impl Unit {
         match self {
             Unit::Seconds => &SECONDS,
             Unit::Bytes => &BYTES,
+            Unit::Pieces => &PIECES,
         }
     }
 
     /// The number that a word with a unit stands for.
     fn number_in(self, word: &str) -> Option<u32> {
         let unit = after_digits(word);
-        let factor = self.factor(unit.trim_start())?;
+        let factor = meant(unit.trim_start(), self.table())?;
         let Ok(number) = word.strip_suffix(unit)?.parse::<u32>() else {
             return None;
         };
         number.checked_mul(factor)
-    }
-
-    fn factor(self, unit: &str) -> Option<u32> {
-        for (name, factor) in self.table() {
-            if unit.eq_ignore_ascii_case(name) {
-                return Some(*factor);
-            }
-        }
-        None
     }
 
     /// What to type for a word with a unit, if that is a number in this range.
@@ -155,6 +173,7 @@ impl fmt::Display for Bare {
         let unit = match unit {
             Unit::Seconds => "seconds",
             Unit::Bytes => "bytes",
+            Unit::Pieces => "a number",
         };
         write!(f, "{unit}, without a unit: {number}")
     }

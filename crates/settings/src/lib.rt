@@ -26,7 +26,7 @@ pub use faults::{KeyText, SettingsFault};
 pub use fields::Settings;
 pub use hints::{TypedWord, Unit};
 pub use levels::LogLevel;
-pub use one_line::{EndOfLine, OneLine, ShownCharacter};
+pub use one_line::{EndOfLine, OneLine, ShownCharacter, is_unseen};
 pub use read::parse;
 pub use table::{Key, ROWS, Row};
 pub use wanted::has_leading_zero;

@@ -1,11 +1,11 @@
 ghost use Rattle.std.specs.{Prelude.{◌≡◌, Some, drop}, Str.chars};
-ghost use Rattle.settings.specs.Faults.{shown_character, dots, one_line, end_of_line};
+ghost use Rattle.settings.specs.Faults.{is_unseen, shown_character, dots, one_line, end_of_line};
 
 use crate::limits::MAX_SHOWN;
 use std::fmt;
 
-/// A text from outside on one line: control characters are escaped, and `..` stands for whatever follows the first 64
-/// characters.
+/// A text from outside on one line: characters that nobody sees are escaped, and `..` stands for whatever follows the
+/// first 64 characters.
 #[derive(Clone, Copy)]
 pub struct OneLine<'a>(pub &'a str);
 
@@ -56,7 +56,7 @@ fn without_first(text: &str, count: usize) -> &str
     rest.as_str()
 }
 
-/// A character as shown: a control character by its number.
+/// A character as shown: one that nobody sees, such as U+00A0, by its number.
 #[derive(Clone, Copy)]
 pub struct ShownCharacter(pub char);
 
@@ -65,11 +65,21 @@ impl fmt::Display for ShownCharacter {
 
     fn fmt<W: fmt::Write>(&self, f: &mut fmt::Formatter<W>) -> fmt::Result {
         let character = self.0;
-        if character.is_control() {
+        if is_unseen(character) {
             let code = character as u32;
             write!(f, "\\u{{{code:x}}}")
         } else {
             f.write_char(character)
         }
     }
+}
+
+/// Whether a character is not seen as itself: a control character, a blank but for the space, or one without a width.
+pub fn is_unseen(character: char) -> bool
+    ensures { result ≡ is_unseen character }
+{
+    character.is_control()
+        || (character.is_whitespace() && character != ' ')
+        || matches!(character, '\u{ad}' | '\u{feff}')
+        || matches!(character, '\u{200b}'..='\u{200f}' | '\u{202a}'..='\u{202e}' | '\u{2060}'..='\u{206f}')
 }

@@ -1,5 +1,5 @@
 use crate::addresses::{address_of, decimal_number};
-use crate::hints::{Bare, Unit, after_digits, curly, has_blank, level_meant};
+use crate::hints::{Bare, Unit, after_digits, curly, has_blank, level_meant, truth_meant};
 use crate::one_line::OneLine;
 use crate::table::{AddressRow, Key, NumberRow, Takes};
 use std::fmt;
@@ -10,6 +10,8 @@ use toml::Value;
 #[derive(Clone, Copy)]
 enum Kind {
     Blank,
+    Named,
+    Foreign,
     Scheme,
     Ipv6,
     Slash,
@@ -23,9 +25,11 @@ enum Kind {
 }
 
 /// The mistakes that are looked for, in this order, with the words before and after the wrong part.
-static KINDS: [(Kind, &str, &str); 11] = [
+static KINDS: [(Kind, &str, &str); 13] = [
     (Kind::Blank, "an address has no blanks", ""),
     (Kind::Scheme, "an address alone is wanted, without ", "://"),
+    (Kind::Named, "an address alone is wanted, without ", ""),
+    (Kind::Foreign, "an address has no ", ""),
     (
         Kind::Ipv6,
         "",
@@ -64,6 +68,8 @@ impl Kind {
     fn part_of(self, text: &str) -> Option<&str> {
         match self {
             Kind::Blank => has_blank(text).then_some(""),
+            Kind::Named => name_before(text),
+            Kind::Foreign => text.split(is_ascii).find(|part| !part.is_empty()),
             Kind::Scheme => Some(text.split_once("://")?.0),
             Kind::Ipv6 => ipv6_in(text),
             Kind::Slash => text.split_once('/')?.1.split(':').next(),
@@ -101,6 +107,18 @@ impl Kind {
         }
         None
     }
+}
+
+/// The name that stands before an address as other programs take it, as in `listen=A:P` or `tcp-listen:P`.
+fn name_before(text: &str) -> Option<&str> {
+    match text.split_once('=') {
+        Some((name, _)) => Some(name),
+        None => Some(text.split_once(':')?.0).filter(|name| name.starts_with("tcp")),
+    }
+}
+
+fn is_ascii(character: char) -> bool {
+    character.is_ascii()
 }
 
 /// What stands before and after the first `:` of a text. Digits alone are a port.
@@ -169,6 +187,8 @@ pub(crate) enum Wanted<'a> {
     Bare(Bare),
     /// These words, with a part of a text between them, which is shown on one line.
     Words(&'a str, &'a str, &'static str),
+    /// This line is wrong as the parser says.
+    Line(&'a str, &'a str),
 }
 
 impl<'a> Wanted<'a> {
@@ -187,7 +207,9 @@ impl<'a> Wanted<'a> {
 
     /// What is wanted if a key refuses a value, which is `word` without quotes.
     pub(crate) fn in_place_of(value: &Value, word: &'a str, key: Key) -> Wanted<'a> {
-        if is_word(value) {
+        if value.as_str().is_some() && needs_no_quotes(word, key) {
+            Wanted::Words("without quotes: ", word, "")
+        } else if is_word(value) {
             Wanted::in_place_of_word(word, key)
         } else {
             Wanted::by(key)
@@ -204,8 +226,11 @@ impl<'a> Wanted<'a> {
             Takes::Address(row) => port_alone(word, row).or(mistake_in(word)),
             Takes::Number(_) if has_leading_zero(word) => mistake_in(word),
             Takes::Number(row) => without_unit(word, row),
-            Takes::Level => level_instead(word),
-            Takes::Truth => None,
+            Takes::Level if word.contains(['/', '.']) || word.starts_with("std") => {
+                Some(Wanted::Words("the log goes to standard error: 2>> FILE", "", ""))
+            }
+            Takes::Level => write_instead(level_meant(word)),
+            Takes::Truth => write_instead(truth_meant(word)),
         };
         mistake.unwrap_or(Wanted::by(key))
     }
@@ -220,8 +245,17 @@ impl<'a> Wanted<'a> {
     }
 }
 
-fn level_instead(word: &str) -> Option<Wanted<'static>> {
-    Some(Wanted::Words("write ", level_meant(word)?, ""))
+fn write_instead(meant: Option<&'static str>) -> Option<Wanted<'static>> {
+    Some(Wanted::Words("write ", meant?, ""))
+}
+
+/// Whether a key takes this word as it is, and no text.
+fn needs_no_quotes(word: &str, key: Key) -> bool {
+    match key.takes() {
+        Takes::Number(_) => are_digits(word) && !word.is_empty(),
+        Takes::Truth => matches!(word, "true" | "false"),
+        _ => false,
+    }
 }
 
 /// The number that is wanted in place of a word with a unit.
@@ -229,7 +263,7 @@ fn without_unit(word: &str, row: &NumberRow) -> Option<Wanted<'static>> {
     let unit = match row.key {
         Key::Ring => Unit::Bytes,
         Key::Idle => Unit::Seconds,
-        _ => return None,
+        _ => Unit::Pieces,
     };
     Some(Wanted::Bare(unit.without(word, row.low, row.high)?))
 }
@@ -278,6 +312,10 @@ impl fmt::Display for Wanted<'_> {
             Wanted::Words(before, part, after) => {
                 let part = OneLine(part);
                 write!(f, "{before}{part}{after}")
+            }
+            Wanted::Line(line, why) => {
+                let line = OneLine(line);
+                write!(f, "{line}: {why}")
             }
         }
     }

@@ -100,14 +100,15 @@ fn listen_at<R: Net + Log>(rt: &R, address: SocketAddr) -> Result<Bound, ServerF
     }
 }
 
-/// Logs why the relay cannot listen: with the privilege that is missing (ip(7), capabilities(7)).
+/// Logs why the relay cannot listen: with the privilege that is missing (ip(7), capabilities(7)), or what shows more.
 fn log_unbound<N: Log>(rt: &N, address: SocketAddr, error: &io::Error) {
-    let right = if needs_right(address, error) {
-        ": a port below 1024 needs CAP_NET_BIND_SERVICE"
-    } else {
-        ""
+    let hint = match error.kind() {
+        _ if needs_right(address, error) => ": a port below 1024 needs CAP_NET_BIND_SERVICE",
+        io::ErrorKind::AddrNotAvailable => ": no interface here has it (ip addr)",
+        io::ErrorKind::AddrInUse => ": ss -tan shows by what, also as the source of a connection",
+        _ => "",
     };
-    error!(rt; target: "relayd", "listen: {address}: {error}{right}");
+    error!(rt; target: "relayd", "listen: {address}: {error}{hint}");
 }
 
 /// Whether a right is missing to listen at a port below 1024.
