@@ -90,6 +90,11 @@ impl Beginning {
         }
     }
 
+    /// Whether records are left out, and with them each wait, so that nothing stays that is played.
+    pub(crate) fn has_nothing(&self) -> bool {
+        self.left_out.records > 0 && !self.waited.iter().any(|waited| *waited)
+    }
+
     /// Counts a record that is left out.
     pub(crate) fn leave_out(&mut self, record: &Record) {
         self.left_out.records = self.left_out.records.saturating_add(1);

@@ -148,15 +148,22 @@ impl Lines {
     /// What is not handed on, once all is read. `is_cut`: the last line has no end.
     fn rest(&self, is_cut: bool) -> Result<Rest, ReplayFault> {
         if self.sizes.is_none() {
+            if self.number == 1 && !is_cut {
+                return Err(fault(format!(in self.alloc; "is empty")));
+            }
             return Err(fault_of(self.alloc, self.number, wanted(FIRST)));
         }
-        Ok(Rest {
-            cut: is_cut.then_some(self.number),
-            left_out: match &self.late {
-                Some(late) => Some(late.left_out),
-                None => None,
-            },
-        })
+        let cut = is_cut.then_some(self.number);
+        let left_out = match &self.late {
+            Some(late) if late.has_nothing() => {
+                let many = late.left_out.records;
+                let why = "are left out: the beginning is missing";
+                return Err(fault(format!(in self.alloc; "all {many} records {why}")));
+            }
+            Some(late) => Some(late.left_out),
+            None => None,
+        };
+        Ok(Rest { cut, left_out })
     }
 
     fn take<T: Take>(
@@ -181,6 +188,9 @@ impl Lines {
     }
 
     fn end_line<T: Take>(&mut self, line: &[u8], taker: &mut T) -> Result<(), ReplayFault> {
+        if line.ends_with(b"\r") {
+            return Err(fault_of(self.alloc, self.number, wanted("the line ends in CR LF")));
+        }
         let Some(sizes) = self.sizes else {
             return match sizes_of(line) {
                 Ok(sizes) => Ok(self.begin(sizes, taker)?),
@@ -258,10 +268,11 @@ fn record_of<'a>(
     is_over: bool,
     line: &'a [u8],
 ) -> Result<Option<Record>, Wrong<'a>> {
+    if is_over && is_header(line) {
+        return Err(wanted("another recording or part begins, which is replayed by itself"));
+    }
     if is_over {
-        return Err(wanted(
-            "nothing comes after the record end or full: what does is replayed by itself",
-        ));
+        return Err(wanted("nothing comes after the record end or full"));
     }
     let record = match read_line(line) {
         Ok(record) => record,
