@@ -6,6 +6,10 @@ use script_text::{Header, Line, Lines, NotRead, Wrong, read_event, read_header, 
 use std::alloc::Global;
 use world_text::{Page, Piece};
 
+/// The commands that read no script are not in mind where a program without input starts relayd without a word.
+const NO_WORLD: &str =
+    "no line begins with flow or world; without a command relayd reads a script (relayd --help)";
+
 /// Adds the cause of a script's fault, if one is known and there is memory for it.
 pub(crate) fn add_cause<C: Causes>(alloc: Global, text: &[u8], fault: Fault, causes: &C) {
     if let Some(cause) = cause(alloc, text, fault) {
@@ -18,7 +22,7 @@ pub(crate) fn add_cause<C: Causes>(alloc: Global, text: &[u8], fault: Fault, cau
 fn cause(alloc: Global, text: &[u8], fault: Fault) -> Option<String> {
     match fault {
         Fault::TooLong => String::from_str(alloc, "a script has at most 1048576 bytes").ok(),
-        Fault::NoWorld => String::from_str(alloc, "no line begins with flow or world").ok(),
+        Fault::NoWorld => String::from_str(alloc, NO_WORLD).ok(),
         Fault::Malformed(number) => malformed(alloc, text, number),
         Fault::NotAllowed(number, word) => {
             let reason = not_allowed(alloc, text, number)?;
@@ -33,8 +37,8 @@ fn malformed(alloc: Global, text: &[u8], number: u64) -> Option<String> {
     let (line, wrong) = wrong_line(alloc, text, number)?;
     let mut cause = Page::new(alloc);
     cause.put(&[Piece::Named("line ", number), Piece::Text(": ")]);
-    if let Some(end) = wrong_end(line, &wrong) {
-        cause.put(&[Piece::Text(end)]);
+    if let Some(unseen) = unseen_in(line, &wrong) {
+        cause.put(&[Piece::Text(unseen)]);
         return cause.finish().ok();
     }
     if !wrong.is_first {
@@ -49,18 +53,19 @@ fn malformed(alloc: Global, text: &[u8], number: u64) -> Option<String> {
     cause.finish().ok()
 }
 
-/// What is wrong with the end of a line, if that makes its last word wrong: it would not be seen.
-fn wrong_end(line: &[u8], wrong: &Wrong<'_>) -> Option<&'static str> {
+/// What is wrong in a line that nobody sees, if that makes its word wrong.
+fn unseen_in(line: &[u8], wrong: &Wrong<'_>) -> Option<&'static str> {
     let word = wrong.word?;
-    if !line.ends_with(word) {
-        return None;
-    }
-    if word.ends_with(b"\r") {
+    if word.starts_with(b"\xef\xbb\xbf") {
+        Some("a byte order mark stands before the script")
+    } else if word.ends_with(b"\r") && line.ends_with(word) {
         Some("the line ends in CR LF")
-    } else if word.is_empty() && wrong.wanted.contains("the line") {
+    } else if !word.is_empty() {
+        None
+    } else if line.ends_with(b" ") {
         Some("the line ends in a blank")
     } else {
-        None
+        Some("a blank stands before another, or begins the line")
     }
 }
 
