@@ -16,13 +16,8 @@ use Rattle.world.specs.Runs as machine_runs
 
 -- A program that is half way can go on
 
-token_some : (side : Side) (g : ℕ) → 1 ≤ g → g ≤ last_generation → token_of 0 side g ≡ Some (record { slot = 0; side = side; generation = g })
-token_some side g some most = rw (le-leb _ _ some, le-leb _ _ most) refl
-
 registers_on : (st : System) (i : ℕ) (t : Thread) (rest : List Act) (free : ℕ) → st.accepted ≡ true → 1 ≤ free → st.entry < last_generation → registering st i t rest free ≡ None → ⊥
-registers_on st i t rest zero had some below none = absurd (omega arith)
-registers_on st i t rest (suc free) had some below none =
-    let made = rw (had, token_some Client (st.entry + 1) (omega arith) (omega arith), token_some Target (st.entry + 1) (omega arith) (omega arith)) at none in cc
+registers_on st i t rest free had some below none = grind (arith, nat_tests)
 
 closes_on : (k : KernelState) (e : Descriptors) (a b : Registered) → end_at k.ends e.client ≡ Some a → end_at k.ends e.target ≡ Some b → e.client ≢ e.target → kernel.close_both k e ≡ None → ⊥
 closes_on k e a b one two apart none =
@@ -208,8 +203,7 @@ module _ {l : Limits} {st : System} (s : Sound l st) where
   fine each nothing (Accept Blocked) = kept_when _ _ (λ may. kept_over _ (kernel.accept st.kernel Blocked) (kept_guard _ _ (λ none.
       let m = may_accept (poller_rests st) st.flag st.accepted (nat_lt 0 st.free) may in
       record { sound = assumption s; lighter = λ own. omega (arith, ap one m.0) })))
-  fine each nothing (Accept Again) = kept_when _ _ (λ may. kept_some (other s))
-  fine each nothing (Accept Starved) = kept_when _ _ (λ may. kept_some (other s))
+  fine each nothing (Accept reply) = kept_when _ _ (λ may. kept_some (other s))
   fine each nothing Drop = kept_guard _ _ (λ may.
       let free : false ≡ true → 1 ≤ st.free = λ yes. absurd (cc) in
       let begun : (t : Thread) → slice_get st.threads 0 ≡ Some t → t.todo ≡ open_slot → false ≡ true =

@@ -1,8 +1,8 @@
 -- A whole server, left alone, comes to rest: each of its own steps makes it lighter.
 use Rattle.claims.specs.Words.{one}
-use Rattle.interleaving.{proofs.{Rest.Acts.Weights.{most_at, not_so, one_less, polled as left_queue}, Runs.run_on, Slots.{Reached, between, first, goes, next, reach, Steps.{Next, Stood, queued, queued_rest, set_here, set_there, stood, turn_of}}}, specs.{Likeness.EveryInterleavingIsARun, Rest.{LeftAloneItEnds, client_weight, most}, Slots.{Accept, Acts, Begin, Calls, Deed, Deliver, Drop, Front, Listener, Many, Of, Open, Poll, Put, Report, Sees, Server, Step, Taken, Ticket, Waker, answered, are_queued, besides, deed, delivering, first_of, in_hand, is_listener, makes, may, may_accept, names_at, one_slot, opening, polled, rank_at, rests, run, set, shared, slot_of, start, step, steps_at, suits, tickets_at, with_front, written}, Threads.System, Whole.{ServersComeToRest, accepted_weight, front_weight, hand_weight, is_own, is_waker, report_weight, wakes, weight}}}
+use Rattle.interleaving.{proofs.{Rest.Acts.Weights.{most_at, one_less, polled as left_queue}, Runs.run_on, Slots.{Reached, between, first, goes, next, reach, Steps.{Next, Stood, queued, queued_rest, set_here, set_there, stood, turn_of}}}, specs.{Likeness.EveryInterleavingIsARun, Rest.{LeftAloneItEnds, client_weight, most}, Slots.{Accept, Acts, Begin, Calls, Deed, Deliver, Drop, Front, Listener, Many, Of, Open, Poll, Put, Report, Sees, Server, Step, Taken, Ticket, Waker, answered, are_queued, besides, deed, delivering, first_of, in_hand, is_listener, makes, may, may_accept, names_at, one_slot, opening, polled, rank_at, rests, run, set, shared, slot_of, start, step, steps_at, suits, tickets_at, with_front, written}, Threads.System, Whole.{ServersComeToRest, accepted_weight, front_weight, hand_weight, is_own, is_waker, report_weight, wakes, weight}}}
 use Rattle.kernel_model.specs.{Kernel.reported, Names.without_names, declared.accepting.Accepting.{Accepting, TheVariants.{Accepted, Again, Blocked, Starved}}}
-use Rattle.std.{proofs.{Common.{Bool, List, None, Option, Some, [], ap, arith, drop, eq-eqb, false, if◌then◌else◌, inl, inr, length, length-append, ltb-true, map, nat_le, nat_lt, ne_eqb, not, option_map, refl, suc, sym, true, zero, ℕ, ◌&&◌, ◌*◌, ◌++◌, ◌+◌, ◌-◌, ◌<◌, ◌==◌, ◌∙◌, ◌∷◌, ◌≡◌, ◌≢◌, ◌≤◌, ◌⊎◌}, lemmas.{Bool.{and_parts, cases_eq}, List.length-drop, Option.{option_and_then_some, same_Some}}}, specs.{Cmp.second_so, List.{list_all, list_any}}}
+use Rattle.std.{proofs.{Common.{Bool, List, None, Option, Some, [], ap, arith, drop, eq-eqb, false, if◌then◌else◌, inl, inr, length, length-append, ltb-true, map, nat_le, nat_lt, ne_eqb, not, option_map, refl, suc, sym, true, zero, ℕ, ◌&&◌, ◌*◌, ◌++◌, ◌+◌, ◌-◌, ◌<◌, ◌==◌, ◌∙◌, ◌∷◌, ◌≡◌, ◌≢◌, ◌≤◌, ◌⊎◌}, lemmas.{Bool.{and_parts, cases_eq, not-true}, List.length-drop, Option.{option_and_then_some, same_Some}}}, specs.{Cmp.second_so, List.{list_all, list_any}}}
 use Rattle.token.specs.declared.name.Name.{Name, TheVariants.Listener as listener_name}
 use Rattle.world.{proofs.Headline.Ends.Pairs.Holders.Events.Lists.{Kept, kept_at, kept_guard, kept_map, kept_none, kept_over, kept_some, kept_when, total_le, total_push}, specs.{Calls.when, States.numbers_below, Support.total}}
 use Rattle.interleaving.specs.Threads as alone
@@ -236,7 +236,7 @@ module _ (law : EveryInterleavingIsARun) (ends : LeftAloneItEnds) (server : Serv
         → may_accept m.server p (m.fronts p) ≡ true → Kept (Lighter (Accept p reply)) (answered m p reply)
     accepts p Accepted own below can =
         let f = m.fronts p in
-        let none : f.accepted ≡ false = not_so f.accepted (and_parts _ _ (second_so _ _ can)).0 in
+        let none : f.accepted ≡ false = not-true f.accepted (and_parts _ _ (second_so _ _ can)).0 in
         kept_guard _ _ (λ some. fronts_only (Accept p Accepted) p (record f { accepted = true }) (m.backlog - 1) below (λ s own e. e)
         (rw none (omega (arith, one_less (1 + A) m.backlog (ltb-true _ _ some)))))
     accepts p Blocked own below can =

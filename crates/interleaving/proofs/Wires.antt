@@ -73,20 +73,14 @@ end_holds w g e x side late ok =
       nothing_missed = λ reads told. (let it = missed ok reads told in record { armed = it.0; coming = λ some. coming_told_way w side r (it.1 some) });
     }
 
--- once all that is late has come
-record Caught_up (w : Wired) (d : Delay) (e : List (Option Registered)) (q b : List Name) : Type 0 where
-  queue : List Name
-  comes_all : run (seen_as w.system e q b) (comes d.late (Client ∷ Target ∷ [])) ≡ Some (seen_as w.system w.system.kernel.ends queue b)
-
 module _ (w : Wired) (d : Delay) (e : List (Option Registered)) (q b : List Name) where
-  caught_up : {o : Option ℕ} → Both (rim w.system) w.wires w.poll d.late e o → Caught_up w d e q b
-  caught_up (Away ends real empty late) = record { queue = q; comes_all = rw (late Client, late Target, real) refl }
+  -- once all that is late has come
+  caught_up : {o : Option ℕ} → Both (rim w.system) w.wires w.poll d.late e o → (queue : List Name)
+      × (run (seen_as w.system e q b) (comes d.late (Client ∷ Target ∷ [])) ≡ Some (seen_as w.system w.system.kernel.ends queue b))
+  caught_up (Away ends real empty late) = (q, rw (late Client, late Target, real) refl)
   caught_up (Opened {g} f s ends real as_seen oks) =
       let c = all_come g w.system q b f s ends oks in
-      record {
-        queue = c.queue;
-        comes_all = rw as_seen c.leads ∙ ap (λ (sockets : List (Option Registered)). Some (seen_as w.system sockets c.queue b)) (sym real);
-      }
+      (c.queue, rw as_seen c.leads ∙ ap (λ (sockets : List (Option Registered)). Some (seen_as w.system sockets c.queue b)) (sym real))
 
   ends_hold : {o : Option ℕ} → Both (rim w.system) w.wires w.poll d.late e o
       → (side : Side) (r : Registered) → end_here w.system side ≡ Some r → EndHolds w side (d.late side) r
@@ -109,8 +103,8 @@ wires_come_late core law l steps w one ran =
       leads = it.leads;
       run = law l (happened (start l) none_late steps) (seen_as w.system it.there it.queue b) one it.leads;
       same = refl;
-      settled = seen_as w.system w.system.kernel.ends up.queue b;
-      comes = up.comes_all;
+      settled = seen_as w.system w.system.kernel.ends up.0 b;
+      comes = up.1;
       sockets = refl;
       queue = it.joined.on_way;
       ends = ends_hold w d it.there it.queue b it.joined.ends;

@@ -136,8 +136,7 @@ module _ {st : System} {before : List Exchange} {p : SlotState} {entry : ℕ} {t
       alone (event.Listen (listening.Accept Accepted)) (λ more. rw (may b, can))))
   beyond (Accept Blocked) is = kept_when _ _ (λ b. kept_map _ _ (λ q can.
       alone (event.Listen (listening.Accept Blocked)) (λ more. rw (may b, can))))
-  beyond (Accept Again) is = kept_when _ _ (λ b. kept_some (alone (event.Listen (listening.Accept Again)) (λ more. rw (may b))))
-  beyond (Accept Starved) is = kept_when _ _ (λ b. kept_some (alone (event.Listen (listening.Accept Starved)) (λ more. rw (may b))))
+  beyond (Accept reply) is = kept_when _ _ (λ b. kept_some (alone (event.Listen (listening.Accept reply)) (λ more. rw (may b))))
   beyond Drop is = kept_guard _ _ (λ b. alone (event.Listen listening.Drop) (λ more. rw (second_so (poller_rests st) st.accepted b)))
   beyond (Poll names) is = kept_when _ _ (λ b. kept_map _ (kernel.poll st.kernel names.items) (λ q can.
       alone (event.Poll (polling.Poll names)) (λ more. rw (second_so (poller_rests st) (length st.batch == 0) b, can))))

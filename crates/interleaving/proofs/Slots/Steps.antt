@@ -188,11 +188,10 @@ pub record Next (m : Many) (x : Step) (n : Many) : Type 0 where
 -- Fronts
 
 pub at_each : (P : ℕ → Front → Type 0) (f : ℕ → Front) (p : ℕ) (new : Front) (i : ℕ) → P i (f i) → (i ≡ p → P p new) → P i (set f p new i)
-at_each P f p new i all one = by (cases_eq i p)
-  where
-    by : (i ≡ p) ⊎ (i ≢ p) → P i (set f p new i)
-    by (inl e) = rw (e, set_here f p new) (one e)
-    by (inr other) = rw (set_there f p i new other) all
+at_each P f p new i all one = elim (cases_eq i p) [
+  | inl e ↦ rw (e, set_here f p new) (one e)
+  | inr other ↦ rw (set_there f p i new other) all
+]
 
 -- a front's batch is in the view of its poller's slots alone
 pub same_names : (f : ℕ → Front) (p : ℕ) (new : Front) (s i : ℕ) → (i ≡ p → names_at s new.batch ≡ names_at s (f p).batch) → names_at s (set f p new i).batch ≡ names_at s (f i).batch
@@ -228,11 +227,10 @@ module _ (m : Many) (x : Step) (d : Deed) (n : Many) (q : System) where
   -- for each thread, if k alone has moved
   pub moved : (k : ℕ) → n.busy_at k ≡ d.slot → ((i : ℕ) → i ≢ k → n.busy_at i ≡ m.busy_at i) → (m.busy_at k ≡ d.slot) ⊎ (rests m k ≡ true)
       → ((j : ℕ) → j ≢ rank_at m d.slot k → slice_get q.threads j ≡ slice_get (m.places d.slot).threads j) → (i : ℕ) → Stands i
-  moved k here busy before others i = by (cases_eq i k)
-    where
-      by : (i ≡ k) ⊎ (i ≢ k) → Stands i
-      by (inl own) = rw own (inr (here, before))
-      by (inr other) = inl (busy i other, others (rank_at m d.slot i) (rank_apart (m.server.owner d.slot) i k other))
+  moved k here busy before others i = elim (cases_eq i k) [
+    | inl own ↦ rw own (inr (here, before))
+    | inr other ↦ inl (busy i other, others (rank_at m d.slot i) (rank_apart (m.server.owner d.slot) i k other))
+  ]
 
   pub deed_next : Done → ((s : ℕ) (own : List alone.Step) → own ≡ steps_at s (Some d) → Sees m s x own) → alone.run (slot_of m d.slot) d.own ≡ Some q
       → ((i : ℕ) → Stands i) → Apart m → FrontsHold n → Next m x n

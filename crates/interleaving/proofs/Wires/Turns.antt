@@ -38,21 +38,14 @@ close_is : (s : System) (i : ℕ) (t : Thread) (rest : List Act) (c : Connection
     → alone.closed s i t rest c ≡ Some (shut s i t rest c g f)
 close_is s i t rest c g f ends real = rw (ends, real) refl
 
-gone_named : (g : ℕ) (m : Name) → Named (Some g) m → not (same (End (token g Client)) m) ≡ true → not (same (End (token g Target)) m) ≡ true → Named None m
-gone_named g Listener is one both = tt
-gone_named g Waker is one both = tt
-gone_named g (End k) is one both = by k.side is
-  where
-    by : (side : Side) → k ≡ token g side → ⊥
-    by Client own = let never = rw (own, same_self (End (token g Client))) at one in cc
-    by Target own = let never = rw (own, same_self (End (token g Target))) at both in cc
+gone_named : (g : ℕ) (m : Name) → is_named (Some g) m ≡ true → not (same (End (token g Client)) m) ≡ true
+    → not (same (End (token g Target)) m) ≡ true → is_named None m ≡ true
+gone_named g m is one both = grind arith
 
 -- Sockets open
 
-named_then : (g : ℕ) (m : Name) → Named None m → Named (Some g) m
-named_then g Listener is = tt
-named_then g Waker is = tt
-named_then g (End k) is = elim is [ ]
+named_then : (g : ℕ) (m : Name) → is_named None m ≡ true → is_named (Some g) m ≡ true
+named_then g m is = grind arith
 
 open_is : (k : KernelState) (g : ℕ) → (k.ends ≡ []) ⊎ (k.ends ≡ None ∷ None ∷ []) → open_both k (token g Client) (token g Target) ≡ record { value = record k { ends = open_as g opened }; told = two }
 open_is k g (inl is) = rw is refl
@@ -67,8 +60,7 @@ polls_opened Idle = Idle
 polls_opened (Busy none few once named gone within) = Busy none few once (λ e. cc) (λ e. refl) within
 
 pub when_back : {X : Type 0} (b : Bool) (o : Option X) (x : X) → when b o ≡ Some x → (b ≡ true) × (o ≡ Some x)
-when_back true o x h = (refl, h)
-when_back false o x h = cc
+when_back b o x h = grind arith
 
 module _ (w : Wired) (d : Delay) (e : List (Option Registered)) (q : List Name) (j : Joined (rim w.system) w.wires w.poll d e q) (rested : (is_none w.poll || poller_rests w.system) ≡ true) where
   abbrev here : System
@@ -390,8 +382,7 @@ module _ (w : Wired) (d : Delay) (e : List (Option Registered)) (q : List Name) 
       (λ j h. rw (append-nil (comes d.late (sides_told p p.left))) (tells_on w.system w.wires p d e q j p.left refl v h)) j h
 
   tells_rests : (p : Polling) (left : List Name) (v : Wired) → tells w p left ≡ Some v → poller_rests w.system ≡ true → (is_none v.poll || poller_rests v.system) ≡ true
-  tells_rests p [] v h rests = cc
-  tells_rests p (n ∷ rest) v h rests = rw (some_is h) rests
+  tells_rests p left v h rests = grind arith
 
   hands : (p : Polling) → w.poll ≡ Some p → poller_rests w.system ≡ true → p.left ≡ []
       → Led before (polls d.early w.poll) (record w { system = record w.system { batch = p.names.items }; poll = None }) d

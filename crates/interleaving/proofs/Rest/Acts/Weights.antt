@@ -3,7 +3,7 @@ pub use Rattle.claims.specs.Words.{one}
 pub use Rattle.interleaving.specs.Rest.{calls_left, end_weight, flags_up, is_answered, kernel_weight, longest, most, move_weight, moves_left, pair_weight, passes_on, post_weight, socket_weight, spent_weight}
 pub use Rattle.kernel_model.specs.{Ends.{EndState, opened}, Kernel.{KernelState, Registered, end_at, lowest_free, with_end}, Names.{are_among, are_distinct, has, same, without_names}, Outcome.Told, declared.{both.{Descriptors.Descriptors, Sockets.Sockets}, reply.Reply.Reply}}
 pub use Rattle.relay_core.{proofs.Pairs.asked_is_possible, specs.{Calls.{direction_of, side_of}, Order.{call_for, next_call}, Pairs.{PairState, flags_of, fresh, is_live, verdict}, Replies.{after, fits}, declared.{call.Call.{Call, TheVariants.Read}, flags.Flags.Flags}}}
-pub use Rattle.std.proofs.{Common.{Bool, List, None, Option, Some, [], ◌<◌, arith, false, get_or, if◌then◌else◌, length, length-append, max, not, refl, slice_get, slice_set, suc, true, zero, ℕ, ◌*◌, ◌+◌, ◌-◌, ◌∷◌, ◌≡◌, ◌≤◌}, lemmas.{Bool.{and_parts, Decides.nat_tests}, Grind.common_steps, List.Sums.{count_by-le-length, length-filter}}}
+pub use Rattle.std.proofs.{Common.{Bool, List, None, Option, Some, [], ◌<◌, arith, false, get_or, if◌then◌else◌, length, length-append, max, not, refl, slice_get, slice_set, suc, true, zero, ℕ, ◌*◌, ◌+◌, ◌-◌, ◌∷◌, ◌≡◌, ◌≤◌}, lemmas.{Bool.{and_parts, not-true, Decides.nat_tests}, Grind.common_steps, List.Sums.{count_by-le-length, length-filter}}}
 pub use Rattle.token.specs.{Names.EndName, Sides.opposite, declared.{direction.Direction.Direction, name.Name.Name}}
 pub use Rattle.world.{proofs.Headline.Ends.Pairs.Holders.Events.{end_after, Lists.{Kept, kept_at, kept_bind, kept_map, kept_over, kept_when, same_end_is, total-set, total_push}}, specs.{Calls.{OpenConnection, descriptor, made, told_of}, Leads.{LeadTable, lead_at}, Support.total, declared.limits.Limits.Limits}}
 unfoldable pub use Rattle.world.specs.Calls.{called}
@@ -192,9 +192,6 @@ pub one_less : (c n : ℕ) → 0 < n → c * (n - 1) + c ≡ c * n
 one_less c zero some = absurd (omega arith)
 one_less c (suc n) some = let less : suc n - 1 ≡ n = omega arith in rw less (omega arith)
 
-pub not_so : (b : Bool) → not b ≡ true → b ≡ false
-not_so b h = grind arith
-
 -- A poll: each name that it gives leaves the queue
 
 pub same_is : (n m : Name) → same n m ≡ true → n ≡ m
@@ -221,7 +218,7 @@ counted [] q among distinct = omega arith
 counted (n ∷ ns) q among distinct =
     let parts = and_parts _ _ among in
     let others = and_parts _ _ distinct in
-    omega (arith, counted ns q parts.1 others.1, counts_beside n ns q (not_so (has n ns) others.0), counts_once n q parts.0)
+    omega (arith, counted ns q parts.1 others.1, counts_beside n ns q (not-true (has n ns) others.0), counts_once n q parts.0)
 
 parted : (names q : List Name) → length (without_names names q) + count names q ≡ length q
 parted names [] = refl

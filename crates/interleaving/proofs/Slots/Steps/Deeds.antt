@@ -44,7 +44,6 @@ module _ (st q : System) where
 
   rest_stays : (s : Step) → st.flag ≡ true → st.accepted ≡ false → is_plain s ≡ true → step st s ≡ Some q
       → (common q ≡ common st) × (q.batch ≡ drop (delivers s) st.batch) × (take (length st.tickets) q.tickets ≡ st.tickets)
-  rest_stays (Acts i) up none plain is = grind (arith, take-length {A = ℕ}, take-append_seam {A = ℕ})
   rest_stays s up none plain is = grind (arith, take-length {A = ℕ}, take-append_seam {A = ℕ})
 
   pub leaves : (s : Step) → st.flag ≡ true → st.accepted ≡ false → is_plain s ≡ true → run st (s ∷ []) ≡ Some q

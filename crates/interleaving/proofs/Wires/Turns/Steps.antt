@@ -83,9 +83,6 @@ module _ (st : System) (e : List (Option Registered)) (q b : List Name) where
   pub steps_apart : (s : alone.Step) (next : System) → no_socket s ≡ true → step st s ≡ Some next → Apart (λ x. step x s) next
   steps_apart s next is h = alike_at _ _ next h (steps_alike s is)
 
-apart : (g : ℕ) (f : Side → EndState) (side k : Side) → not (is_readable (f side) || is_writable (f side)) ≡ true → is_readable (f k) ≡ true → same (End (token g side)) (End (token g k)) ≡ false
-apart g f side k quiet some = grind arith
-
 module _ {r : Rim} {wires : Side → Wire} {poll : Option Polling} {late : Side → List Change} {e : List (Option Registered)} where
   -- the same ends, with another queue or another poll
   pub requeued : {o : Option ℕ} (queue batch : List Name) (next : Option Polling)
@@ -122,12 +119,10 @@ module _ {r : Rim} {wires : Side → Wire} {poll : Option Polling} {late : Side 
       → name_here o who ≡ Some n → quiet_here backlog (shape_here ends).0 who ≡ true → Both (record r { queue = without_name n r.queue }) wires poll late e o
   withdrawn backlog (Away ends real there late) who n is quiet = Away ends real there late
   withdrawn backlog (Opened {g} f s ends real there oks) who n is quiet = Opened f s ends real there (λ k.
-      eased (λ some. more_or (has (End (token g k)) r.queue) _ (soon poll (End (token g k))) (has_without (End (token g k)) n r.queue (by who k is quiet some))) (oks k))
+      eased (λ some. more_or (has (End (token g k)) r.queue) _ (soon poll (End (token g k))) (has_without (End (token g k)) n r.queue (by k some))) (oks k))
     where
-      by : (who : Reported) (k : Side) → name_here (Some g) who ≡ Some n → quiet_here backlog (Some (g, f)) who ≡ true → is_readable (f k) ≡ true → same n (End (token g k)) ≡ false
-      by reports.Listener k is quiet some = rw (some_is is) refl
-      by reports.Waker k is quiet some = rw (some_is is) refl
-      by (reports.End i side) k is quiet some = rw (some_is is) (apart g f side k quiet some)
+      by : (k : Side) → is_readable (f k) ≡ true → same n (End (token g k)) ≡ false
+      by k some = grind arith
 
 -- A poll there, of what may not be queued there
 
@@ -145,8 +140,7 @@ pub polled_now : (st : System) (e : List (Option Registered)) (q : List Name) (o
 polled_now st e q o shape early None rests Idle = record { queue = q; leads = rw (not_polled early) refl; less = λ n h. (rw (not_in early n) (or_left _ _ h), not_in early n) }
   where
     not_polled : (early : Bool) → polls early None ≡ []
-    not_polled true = refl
-    not_polled false = refl
+    not_polled early = grind arith
 polled_now st e q o shape true (Some p) rests busy = record { queue = q; leads = refl; less = λ n h. (or_left _ _ h, refl) }
 polled_now st e q o shape false (Some p) rests (Busy none few once named gone within) =
     let r = reports_all st e q st.batch o shape p.names.items (named refl) in
@@ -213,7 +207,7 @@ module _ (w : Wired) (d : Delay) (e : List (Option Registered)) (q : List Name) 
       by t is fit true late =
           let all = all_after t (waited (oks side) c t is fit late) in
           led e q refl (Opened (on side t.value f) s ends refl there (λ k. rw (on_same side w.wires k, on_same side s k) at (all k)))
-          (known_reported n t.told queue refl known) polls
+          (known_reported n t.told queue (same_self n) known) polls
           (λ m h. more_or (has m queue) (has m (reported queue n t.told)) (in_poll d.early w.poll m) (has_reported m n t.told queue) (j.on_way m h))
       by t is fit false now =
           let m = moves (oks side) c t is now in
@@ -222,10 +216,10 @@ module _ (w : Wired) (d : Delay) (e : List (Option Registered)) (q : List Name) 
           (rw (there, network_there st g s q there_batch side c m.there ends fit m.is, m.told) refl)
           (Opened (on side t.value f) (on side m.there.value s) ends refl refl
           (λ k. rw (on_same side w.wires k, on_same side d.late k) at (all k)))
-          (known_reported n t.told queue refl known) polls (way_reported n t.told queue q (in_poll d.early w.poll) j.on_way)
+          (known_reported n t.told queue (same_self n) known) polls (way_reported n t.told queue q (in_poll d.early w.poll) j.on_way)
 
   -- a step by which a name is queued here and there
-  queues : (s : alone.Step) (n : Name) (t : Bool) → Named j.generation n → (backlog : ℕ) (armed : Bool)
+  queues : (s : alone.Step) (n : Name) (t : Bool) → is_named j.generation n ≡ true → (backlog : ℕ) (armed : Bool)
       → let next = record st { kernel = record st.kernel { queue = reported st.kernel.queue n t; backlog = backlog; armed = armed } } in
       step seen s ≡ Some (seen_as next e (reported q n t) there_batch) → (wires : Side → Wire) → New next wires → Led seen (s ∷ []) (record w { system = next; wires = wires }) d
   queues s n t named backlog armed does wires new =
@@ -238,7 +232,7 @@ module _ (w : Wired) (d : Delay) (e : List (Option Registered)) (q : List Name) 
   pub connects : (next : System) (wires : Side → Wire) → step st Connect ≡ Some next → New next wires → Led seen (Connect ∷ []) (record w { system = next; wires = wires }) d
   connects next wires h new = mapped _ _ _ h (λ k is after.
       let g = guarded _ _ _ is in
-      rw (after, g.1) (queues Connect Listener st.kernel.armed tt (st.kernel.backlog + 1) false (rw g.0 refl) wires (rw after at new)))
+      rw (after, g.1) (queues Connect Listener st.kernel.armed refl (st.kernel.backlog + 1) false (rw g.0 refl) wires (rw after at new)))
 
   -- a report without cause
   pub rumours : (who : Reported) (next : System) (wires : Side → Wire) → step st (Spurious who) ≡ Some next → New next wires
@@ -339,15 +333,10 @@ polls_on st wires None d e q j names reading idle rested empty may k h =
         → coming (without_names names.items st.kernel.queue) (Some all) (End (token g k)) ≡ true
     taken g f ends real k some more =
         let n = End (token g k) in
-        let was : has n st.kernel.queue ≡ true = grind arith in
-        elim (or_cases (has n (without_names names.items st.kernel.queue)) (has n names.items) (has_polled n names.items st.kernel.queue was)) [
-          | inl still ↦ or_left _ _ still
-          | inr given ↦ (
-              let named : may_name st reading n ≡ true = all_has (may_name st reading) n names.items may given in
-              let here : end_here st k ≡ Some (record { token = token g k; socket = f k }) = rw (ends, real) (end_as g f k) in
-              let reads : reading n ≡ true = rw (here, some) at named in
-              or_right (has n (without_names names.items st.kernel.queue)) _ (rw (given, reads) refl))
-        ]
+        let here : end_here st k ≡ Some (record { token = token g k; socket = f k }) = rw (ends, real) (end_as g f k) in
+        let named = rw (here, some) at (all_has (may_name st reading) n names.items may) in
+        let polled = has_polled n names.items st.kernel.queue in
+        grind arith
 
 none_on : (side : Side) (late : Side → List Change) → ((k : Side) → late k ≡ []) → (k : Side) → on side [] late k ≡ []
 none_on side late none k = grind (arith, none)

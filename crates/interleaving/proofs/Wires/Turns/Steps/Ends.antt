@@ -367,9 +367,7 @@ module _ {e x : EndState} {b : Bool} {wire : Wire} {late : List Change} (ok : En
       reads_now f most reply.Blocked up is (λ asleep. rw g.1 (record { empty = not-true _ g.0; armed = refl }))
   answers f call (reply.Failed kind) up is sound = cc
   answers f (machine.Read most) r up is sound = reads_now f most r up is (λ asleep. cc)
-  answers f (machine.Write offer) r up is sound = other_call f (machine.Write offer) r refl is sound refl
-  answers f machine.Join r up is sound = other_call f machine.Join r refl is sound refl
-  answers f machine.Shut r up is sound = other_call f machine.Shut r refl is sound refl
+  answers f call r up is sound = other_call f call r refl is sound refl
 
   -- a read that the wire answers by itself would block there
   pub would_block : (most : ℕ) → wire.reads ≡ false → wire.told ≡ false → after_call x (machine.Read most) reply.Blocked ≡ Some x
@@ -408,14 +406,14 @@ abbrev pub rim : System → Rim
 rim st = record { ends = st.ends; sockets = st.kernel.ends; queue = st.kernel.queue; batch = st.batch }
 
 -- a name of the slot, which has a connection of this generation, or none
-abbrev pub Named : Option ℕ → Name → Type 0
-Named o Listener = Unit {0}
-Named o Waker = Unit {0}
-Named None (End n) = ⊥
-Named (Some g) (End n) = n ≡ token g n.side
+abbrev pub is_named : Option ℕ → Name → Bool
+is_named o Listener = true
+is_named o Waker = true
+is_named None (End n) = false
+is_named (Some g) (End n) = same (End (token g n.side)) (End n)
 
 pub record AllNamed (o : Option ℕ) (names : List Name) : Type 0 where
-  pub each : (n : Name) → has n names ≡ true → Named o n
+  pub each : (n : Name) → has n names ≡ true → is_named o n ≡ true
 
 -- the sockets here and there
 pub data Both (r : Rim) (wires : Side → Wire) (poll : Option Polling) (late : Side → List Change) (there : List (Option Registered)) : Option ℕ → Type 0 where
@@ -447,7 +445,7 @@ way_reported n t real q also way m h =
     let back = has_reported_back m n t q h in
     grind (arith, way m, has_reported m n t real, reported_has n t real)
 
-pub known_reported : {o : Option ℕ} (n : Name) (t : Bool) (queue : List Name) → Named o n → AllNamed o queue → AllNamed o (reported queue n t)
+pub known_reported : {o : Option ℕ} (n : Name) (t : Bool) (queue : List Name) → is_named o n ≡ true → AllNamed o queue → AllNamed o (reported queue n t)
 known_reported {o} n t queue here all = record { each = λ m h. elim (has_reported_back m n t queue h) [ inl was ↦ all.each m was | inr new ↦ rw new.0 here ] }
 
 pub known_filter : {o : Option ℕ} (p : Name → Bool) (queue : List Name) → AllNamed o queue → AllNamed o (filter p queue)
@@ -475,11 +473,8 @@ name_here o reports.Listener = Some Listener
 name_here o reports.Waker = Some Waker
 name_here o (reports.End s side) = option_map (λ (g : ℕ). End (token g side)) o
 
-pub named_here : (o : Option ℕ) (who : Reported) (n : Name) → name_here o who ≡ Some n → Named o n
-named_here o reports.Listener n is = rw (some_is is) tt
-named_here o reports.Waker n is = rw (some_is is) tt
-named_here None (reports.End s side) n is = cc
-named_here (Some g) (reports.End s side) n is = rw (some_is is) refl
+pub named_here : (o : Option ℕ) (who : Reported) (n : Name) → name_here o who ≡ Some n → is_named o n ≡ true
+named_here o who n is = grind (arith, same_self)
 
 abbrev pub queue_more : System → Name → System
 queue_more st n = record st { kernel = record st.kernel { queue = with_name n st.kernel.queue } }
@@ -525,11 +520,11 @@ pub record Reports (st : System) (e : List (Option Registered)) (q b : List Name
   pub keeps : (n : Name) → has n q ≡ true → has n queue ≡ true
   pub back : (n : Name) → has n queue ≡ true → (has n q ≡ true) ⊎ (has n names ≡ true)
 
-report_here : (st : System) (o : Option (ℕ × (Side → EndState))) → Shape st.ends st.kernel.ends o → (n : Name) → Named (generation_of o) n → step st (report_of n) ≡ Some (queue_more st n)
+report_here : (st : System) (o : Option (ℕ × (Side → EndState))) → Shape st.ends st.kernel.ends o → (n : Name) → is_named (generation_of o) n ≡ true → step st (report_of n) ≡ Some (queue_more st n)
 report_here st o shape Listener is = refl
 report_here st o shape Waker is = refl
-report_here st None shape (End n) is = elim is [ ]
-report_here st (Some x) shape (End n) is = spurious_is st (Some x) shape (reports.End 0 n.side) ∙ ap (λ (m : EndName). Some (queue_more st (End m))) (sym is)
+report_here st None shape (End n) is = cc
+report_here st (Some x) shape (End n) is = spurious_is st (Some x) shape (reports.End 0 n.side) ∙ ap (λ (m : Name). Some (queue_more st m)) (same_is (End (token x.0 n.side)) (End n) is)
 
 pub reports_all : (st : System) (e : List (Option Registered)) (q b : List Name) (o : Option (ℕ × (Side → EndState))) → Shape st.ends e o → (names : List Name) → AllNamed (generation_of o) names
     → Reports st e q b names
