@@ -1,9 +1,9 @@
 -- Left alone, the threads come to rest: each step leaves a sound state, which the relay's own steps make lighter.
 pub mod Acts
 use Rattle.interleaving.{proofs.Runs.{run_on, stage_acts, Programs.{rests_like, some_there}}, specs.{Likeness.{EveryInterleavingIsARun, IsARun, NoActInVain, Settled}, Rest.{HasStopped, LeftAloneItEnds, LeftAloneItRests, client_weight, is_own}, Threads.{Accept, Acts as DoesAct, Begin, Calls, Connect, Deliver, Drop, Network, Open, Poll, Spurious, Step, Sweep, Tick, Vanish, delivers, is_over, poller_rests, resting, rests, run, start, step, watched_of}}}
-use Rattle.kernel_model.specs.{Ends.is_nonempty, declared.accepting.Accepting.TheVariants.{Accepted, Again, Blocked, Starved}}
+use Rattle.kernel_model.specs.{Ends.is_nonempty, declared.accepting.Accepting.TheVariants.{Accepted, Blocked}}
 use Rattle.relay_core.specs.declared.call.Call.{Call as PairCall}
-use Rattle.std.{proofs.{Common.{Vec, le-leb, ltb-true, nat_lt, option_map, replicate, ◌&&◌, ◌++◌, ◌==◌}, lemmas.{List.length-replicate, Option.{option_and_then_some, slice_get-get_or}}}, specs.{Cmp.{first_so, second_so}, Global.Global, List.{list_all, list_any}, Option.option_flatten}}
+use Rattle.std.{proofs.{Common.{Vec, ltb-true, nat_lt, option_map, replicate, ◌&&◌, ◌++◌, ◌==◌}, lemmas.{List.length-replicate, Option.{option_and_then_some, slice_get-get_or}}}, specs.{Cmp.{first_so, second_so}, Global.Global, List.{list_all, list_any}}}
 use Rattle.token.specs.declared.kind.Kind.TheVariants.{Reset}
 use Rattle.world.{proofs.Headline.Ends.Pairs.Holders.{SlotOk, facts, turns_after, worker_closes, worker_holds, Events.{Happens, Ticks, holds_after, Lists.{get-replicate, get-set_other, kept_guard, total_none}}}, specs.{CoreLaws.CoreLaws, Due.{due, due_place, has_ticket, movable}, Headline.ListenerHolds, Slots.{is_by_worker, is_held}, States.{opening, resting as idle_worker}, Steps.change_at, Support.{one as one_if, worker_tickets}, declared.{actors.Holder.{Holder, TheVariants.{By, Free, Nobody}}, event.Event.Event}}}
 use denote.RawPtr.{null_ptr}
@@ -20,10 +20,7 @@ registers_on : (st : System) (i : ℕ) (t : Thread) (rest : List Act) (free : �
 registers_on st i t rest free had some below none = grind (arith, nat_tests)
 
 closes_on : (k : KernelState) (e : Descriptors) (a b : Registered) → end_at k.ends e.client ≡ Some a → end_at k.ends e.target ≡ Some b → e.client ≢ e.target → kernel.close_both k e ≡ None → ⊥
-closes_on k e a b one two apart none =
-    let other : end_at (slice_set k.ends e.client None) e.target ≡ Some b = ap option_flatten (get-set_other k.ends e.client e.target None apart) ∙ two in
-    let made = rw (one, other) at none in
-    cc
+closes_on k e a b one two apart none = grind (arith, get-set_other {X = Option Registered})
 
 calls_on : (now : ℕ) (l : OpenConnection) (call : PairCall) (a : Registered) → next_call l.connection.pair ≡ Some call → end_at l.kernel.ends (descriptor l.connection.ends (side_of call)) ≡ Some a
     → called now l (reply.Failed Reset) ≡ None → ⊥

@@ -1,7 +1,7 @@
 -- Each slot of a server can be looked at alone.
 pub mod Steps
 use Rattle.interleaving.{proofs.Runs.run_on, specs.{Likeness.EveryInterleavingIsARun, Slots.{Accept, Acts, AllStandApart, Calls, Network, Poll, Put, SeesAll, SlotsStandApart, Spurious, Sweep, Tick, Vanish, may, polled, run, shared, start, step, unqueued}, Threads.resting}}
-use Rattle.std.{proofs.{Common.{Vec, le-leb, leb-true, replicate, ◌-◌}, lemmas.Option.option_and_then_some}, specs.Global.Global}
+use Rattle.std.{proofs.{Common.{Vec, le-leb, leb-true, replicate, subst, ◌-◌}, lemmas.Option.option_and_then_some}, specs.{Global.Global, Prelude.IfSome}}
 use denote.RawPtr.{null_ptr}
 use Steps.*
 use Rattle.world.specs.declared.event.Reported.TheVariants as reported
@@ -97,7 +97,7 @@ module _ (m : Many) (between : Between m) where
         record {
           own = alone.Poll given.0 ∷ [];
           sees = rw (eq-eqb _ _ own) (given.0, given.1, refl);
-          leads = rw (own, empty, idle_now, given.1, le-leb _ _ fewer, q.among, q.once, eq-eqb _ _ refl) refl;
+          leads = rw (own, empty, idle_now, given.1, le-leb _ _ fewer, q.0, q.1, eq-eqb _ _ refl) refl;
         }
     polls_at s (inr other) = record {
       own = [];
@@ -161,9 +161,6 @@ pub record Went (server : Server) (m : Many) (steps : List Step) (to : Many) : T
   pub reached : Reached server to
   pub each : (s : ℕ) → Seen m steps to s
 
-one_more : (m : Many) (s : ℕ) (x : Step) (n : Many) (xs : List Step) (own rest : List alone.Step) → Sees m s x own → step m x ≡ Some n → SeesAll n s xs rest → SeesAll m s (x ∷ xs) (own ++ rest)
-one_more m s x n xs own rest sees there after = (own, rest, refl, sees, rw there after)
-
 rests_first : (n i : ℕ) → i < n → rests_at (slice_get (replicate n resting) i) ≡ true
 rests_first zero i some = absurd (omega arith)
 rests_first (suc n) zero some = refl
@@ -195,11 +192,12 @@ module _ (law : EveryInterleavingIsARun) (server : Server) (inside : (s : ℕ) �
   goes (x ∷ xs) m to r ran = option_and_then_some _ _ _ ran (λ n is rest.
       let it : Next m x n = kept_at {P = Next m x} (step m x) n is (next m (between m r) x) in
       let w : Went server n xs to = goes xs n to (reach m x n r it) rest in
+      let after = λ (s : ℕ). subst (λ (o : Option Many). IfSome o (λ (n : Many). SeesAll n s xs (w.each s).own)) (sym is) (w.each s).sees in
       record {
         reached = w.reached;
         each = λ s. record {
           own = (it.each s).own ++ (w.each s).own;
-          sees = one_more m s x n xs (it.each s).own (w.each s).own (it.each s).sees is (w.each s).sees;
+          sees = ((it.each s).own, (w.each s).own, refl, (it.each s).sees, after s);
           leads = run_on (it.each s).own (w.each s).own (slot_of m s) (slot_of n s) (it.each s).leads ∙ (w.each s).leads;
         };
       })

@@ -20,16 +20,12 @@ same_below (suc n) f g same =
 -- of functions that differ at one number
 differs_at : (n k : ℕ) (f g : ℕ → ℕ) → k < n → ((i : ℕ) → i ≢ k → f i ≡ g i) → total f (numbers_below n) + g k ≡ total g (numbers_below n) + f k
 differs_at zero k f g below same = absurd (omega arith)
-differs_at (suc n) k f g below same = by (cases_eq n k) (λ less. differs_at n k f g less same)
-  where
-    by : (n ≡ k) ⊎ (n ≢ k) → (k < n → total f (numbers_below n) + g k ≡ total g (numbers_below n) + f k) → total f (numbers_below (suc n)) + g k ≡ total g (numbers_below (suc n)) + f k
-    by (inl e) lower =
-        let rest = same_below n f g (λ i less. same i (λ at. absurd (omega arith))) in
-        rw (← e) (omega (arith, total_push f (numbers_below n) n, total_push g (numbers_below n) n))
-    by (inr other) lower =
-        let rest = lower (omega arith) in
-        let this = same n other in
-        omega (arith, total_push f (numbers_below n) n, total_push g (numbers_below n) n)
+differs_at (suc n) k f g below same = elim (cases_eq n k) [
+  | inl e ↦ (let rest = same_below n f g (λ i less. same i (λ at. absurd (omega arith))) in
+      rw (← e) (omega (arith, total_push f (numbers_below n) n, total_push g (numbers_below n) n)))
+  | inr other ↦ (let rest = differs_at n k f g (omega arith) same in let this = same n other in
+      omega (arith, total_push f (numbers_below n) n, total_push g (numbers_below n) n))
+]
 
 total_both : (n : ℕ) (f g : ℕ → ℕ) → total (λ i. f i + g i) (numbers_below n) ≡ total f (numbers_below n) + total g (numbers_below n)
 total_both zero f g = refl
@@ -261,7 +257,7 @@ module _ (law : EveryInterleavingIsARun) (ends : LeftAloneItEnds) (server : Serv
             by : (b : Bool) → (m.server.owner s == p) ≡ b → slot.weight (slot_of (polled m p reports) s) + given m p reports s ≤ slot.weight (slot_of m s)
             by true own =
                 let q = queued m p s reports h in
-                let less = poll_weighs (slot_of m s) (names_at s reports) (left_queue (names_at s reports) (m.places s).kernel.queue q.among q.once) in
+                let less = poll_weighs (slot_of m s) (names_at s reports) (left_queue (names_at s reports) (m.places s).kernel.queue q.0 q.1) in
                 rw own less
             by false other = rw other (omega arith)
 

@@ -40,8 +40,7 @@ module _ (core : CoreLaws) (law : EveryInterleavingIsARun) (l : Limits) (one : l
   went : (steps : List wired.Step) (w to : Wired) (d : Delay) (e : List (Option Registered)) (q : List Name) → Joined (rim w.system) w.wires w.poll d e q
       → (is_none w.poll || poller_rests w.system) ≡ true → (made : List alone.Step) → run (alone.start l) made ≡ Some (seen_as w.system e q (batch_there w.poll d.early w.system.batch))
       → wired.run w steps ≡ Some to → Went w d e q steps to
-  went [] w to d e q j rested made ran h = rw (some_is h)
-      (record { there = e; queue = q; leads = refl; joined = j })
+  went [] w to d e q j rested made ran h = rw (some_is h) (record { there = e; queue = q; leads = refl; joined = j })
   went (x ∷ steps) w to d e q j rested made ran h = option_and_then_some _ _ _ h (λ v is rest.
       let before = seen_as w.system e q (batch_there w.poll d.early w.system.batch) in
       let r = law l made before one ran in

@@ -3,7 +3,7 @@
 pub use Rattle.std.{proofs.{Common.{Bool, List, None, Option, Some, [], ap, append-nil, arith, drop, false, if◌then◌else◌, inl, inr, is_some, length, lt-ltb, map, nat_le, nat_lt, not, option_map, refl, replicate, slice_get, slice_set, subst, suc, sym, true, zero, ℕ, ◌&&◌, ◌++◌, ◌+◌, ◌==◌, ◌∙◌, ◌∷◌, ◌≡◌, ◌≢◌, ◌≤◌, ◌⊎◌, length-append, eqb-true, ne_eqb, ◌-◌, append_assoc, eq-eqb, leb-true}, lemmas.{Bool.{or_right, and_parts, cases_eq, Decides.nat_tests}, Option.slice_get_past, List.{map-append, length-replicate, set-set}}}, specs.{Option.is_none, Cmp.second_so, List.flat_map}}
 pub use Rattle.claims.specs.{Words.{WordState, made as exchange_made, some_wait, wakes, word_after}, declared.view.Exchange.Exchange}
 pub use Rattle.interleaving.specs.{Likeness.{Adopted, Emptied, Entered, Finds, Goes, HalfOpen, HasClosed, HasOut, HasRetired, Held, HolderLike, Holds, IsHalfOpen, IsHolder, IsSettled, Leaves, Like, Opens, OthersRest, Placed, Posted, Registered, Rests, Settled, Stage, Stays, ThreadLike, Tries, WorkerFor, WorkersFor, ahead, ends_of, exchanges_in, first_kinds, here, kinds_in, left_of, machine_of, made_all, opened_slot, posts, ticket, visible_in, visible_of}, Threads.{Accept, Act, Acts, Begin, Call, Calls, Connect, Deliver, Drop, Give, Network, Open, Poll, Post, Release, Retire, Spurious, Step, Sweep, System, Thread, Tick, Vanish, acts, again, begins, begun, calls, closed, delivered, delivers, ended, given, goes_on, heard, is_limited, is_over, open_slot, plan, planned, poller_rests, posted, put_in, quiet, registered, registering, released, rests, step, taking, watched_of, with_thread}}
-pub use Rattle.kernel_model.specs.{Ends.is_nonempty, Kernel.KernelState, declared.{both.Descriptors.Descriptors, reply.Reply.Reply, accepting.Accepting.TheVariants.{Accepted, Blocked, Again, Starved}}}
+pub use Rattle.kernel_model.specs.{Ends.is_nonempty, Kernel.KernelState, declared.{accepting.Accepting.TheVariants.{Accepted, Blocked}, both.Descriptors.Descriptors, reply.Reply.Reply}}
 pub use Rattle.relay_core.specs.{declared.call.Call.{Call as PairCall}, Order.next_call, Pairs.{PairState, is_live, verdict, fresh}, Replies.fits, Idle.{is_overdue, expired}}
 pub use Rattle.token.specs.{Names.EndName, declared.{name.Name.Name, side.Side.{Side, TheVariants.{Client, Target}}}}
 pub use Rattle.world.{proofs.Headline.Ends.Pairs.Holders.{Events.Lists.{Kept, get-set_other, get-set_same, kept_at, kept_bind, kept_guard, kept_map, kept_none, kept_some, kept_when, set_same, total_at}, Turns, facts, first_free, is_number, is_shaped, names_it, own_generation, some_more, waiting, worker_retires}, specs.{Acts.busy, Leads.lead_at, Slots.{SlotState, WorkerState, is_by_worker, is_held}, States.{State, resting as idle_worker}, Steps.{with_note, brings_ticket, may_release, is_worn, token_of}, Support.{of_slot, one, tickets, total, worker_tickets}, Words.{is_free, word_at}, declared.{actors.Holder.{Holder, TheVariants.{By, Free, Nobody}}, connection.Connection.Connection, event.{Event.Event, Change.Change, Reported.Reported}}, Calls.{descriptor, OpenConnection, called, told_of, made}}}

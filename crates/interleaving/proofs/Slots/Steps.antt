@@ -22,11 +22,7 @@ set_there f i j x other = rw (ne_eqb _ _ other) refl
 -- the view of a slot, by its place and what it shares
 pub viewed : (m : Many) (s : ℕ) (q : System) → m.places s ≡ q → one_slot m.server.limits s ≡ q.limits → true ≡ q.flag → false ≡ q.accepted
     → names_at s (m.fronts (m.server.owner s)).batch ≡ q.batch → tickets_at s m.tickets ≡ q.tickets → slot_of m s ≡ q
-viewed m s q p l f a b t = rw (p, l, b, t) (by q.flag q.accepted f a)
-  where
-    by : (flag accepted : Bool) → true ≡ flag → false ≡ accepted
-        → record (record q { flag = true }) { accepted = false } ≡ record (record q { flag = flag }) { accepted = accepted }
-    by flag accepted f a = rw (sym f, sym a) refl
+viewed m s q p l f a b t = grind arith
 
 -- what a step that is elsewhere does not change
 pub framed : (m n : Many) (s : ℕ) → n.server ≡ m.server → n.places s ≡ m.places s
@@ -107,22 +103,16 @@ taken_here test ts c is s own most =
 
 pub fewer_names : (s : ℕ) (rs : List Report) → length (names_at s rs) ≤ length rs
 fewer_names s [] = omega arith
-fewer_names s (Of t n ∷ rs) = let h = fewer_names s rs in grind (arith, nat_tests)
-fewer_names s (r ∷ rs) = let h = fewer_names s rs in omega arith
+fewer_names s (r ∷ rs) = let h = fewer_names s rs in grind (arith, nat_tests)
 
 pub queued_rest : (m : Many) (p : ℕ) (r : Report) (rs : List Report) → are_queued m p (r ∷ rs) ≡ true → are_queued m p rs ≡ true
 queued_rest m p r rs h = grind arith
 
 -- what a poll may give is queued at each slot, once
-pub record Queued (s : ℕ) (queue : List Name) (rs : List Report) : Type 0 where
-  pub among : are_among queue (names_at s rs) ≡ true
-  pub once : are_distinct (names_at s rs) ≡ true
-
-pub queued : (m : Many) (p s : ℕ) (rs : List Report) → are_queued m p rs ≡ true → Queued s (m.places s).kernel.queue rs
-queued m p s [] h = record { among = refl; once = refl }
-queued m p s (r ∷ rs) h =
-    let q = queued m p s rs (queued_rest m p r rs h) in
-    record { among = grind (arith, nat_tests); once = grind (arith, nat_tests) }
+pub queued : (m : Many) (p s : ℕ) (rs : List Report) → are_queued m p rs ≡ true
+    → (are_among (m.places s).kernel.queue (names_at s rs) ≡ true) × (are_distinct (names_at s rs) ≡ true)
+queued m p s [] h = (refl, refl)
+queued m p s (r ∷ rs) h = let q = queued m p s rs (queued_rest m p r rs h) in (grind (arith, nat_tests), grind (arith, nat_tests))
 
 -- a report of an end is of a slot of this poller
 abbrev pub is_own : (ℕ → ℕ) → ℕ → Report → Bool
