@@ -38,7 +38,7 @@ def makes_no_call_while_all_connections_wait():
             relays |= {heard: (budget, idle, 4, before), unheard: (budget, idle, 2, before)}
         at_once(*[functools.partial(fill, connection) for connection in filled])
         at_once(*[relay.come_to_rest for relay in relays])
-        # The kernel may still make room in a full socket, of which it sends a report. So each has ten seconds to find one at rest.
+        # The kernel may still make room in a full socket, and report it. So each has ten seconds to find one at rest.
         busy = relays
         for _second in range(10):
             busy = {relay: calls for relay, calls in made(list(busy), 1).items() if not rested(calls, has_limit=relays[relay][1])}

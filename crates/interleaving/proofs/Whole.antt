@@ -1,6 +1,6 @@
 -- A whole server, left alone, comes to rest: each of its own steps makes it lighter.
 use Rattle.claims.specs.Words.{one}
-use Rattle.interleaving.{proofs.{Rest.Acts.Weights.{most_at, one_less, polled as left_queue}, Runs.run_on, Slots.{Reached, between, first, goes, next, reach, Steps.{Next, Stood, queued, queued_rest, set_here, set_there, stood, turn_of}}}, specs.{Likeness.EveryInterleavingIsARun, Rest.{LeftAloneItEnds, client_weight, most}, Slots.{Accept, Acts, Begin, Calls, Deed, Deliver, Drop, Front, Listener, Many, Of, Open, Poll, Put, Report, Sees, Server, Step, Taken, Ticket, Waker, answered, are_queued, besides, deed, delivering, first_of, in_hand, is_listener, makes, may, may_accept, names_at, one_slot, opening, polled, rank_at, rests, run, set, shared, slot_of, start, step, steps_at, suits, tickets_at, with_front, written}, Threads.System, Whole.{ServersComeToRest, accepted_weight, front_weight, hand_weight, is_own, is_waker, report_weight, wakes, weight}}}
+use Rattle.interleaving.{proofs.{Rest.Acts.Weights.{most_at, one_less, polled as left_queue}, Runs.run_on, Slots.{Reached, between, first, goes, next, reach, Steps.{Next, Stood, queued, queued_rest, set_here, set_there, stood, turn_of}}}, specs.{Likeness.EveryInterleavingIsARun, Rest.{LeftAloneItEnds, client_weight, most}, Slots.{Accept, Acts, Begin, Calls, Deed, Deliver, Drop, Front, Listener, Many, Of, Open, Poll, Put, Report, Sees, Server, Step, Taken, Ticket, Waker, answered, are_queued, besides, deed, delivering, first_of, in_hand, is_listener, makes, may, may_accept, names_at, one_slot, opening, polled, rank_at, rests, run, set, shared, slot_of, start, step, steps_at, suits, tickets_at, with_front, written}, Threads.System, Whole.{LeftAloneServersEnd, accepted_weight, front_weight, hand_weight, is_own, is_waker, report_weight, wakes, weight}}}
 use Rattle.kernel_model.specs.{Kernel.reported, Names.without_names, declared.accepting.Accepting.{Accepting, TheVariants.{Accepted, Again, Blocked, Starved}}}
 use Rattle.std.{proofs.{Common.{Bool, List, None, Option, Some, [], ap, arith, drop, eq-eqb, false, if◌then◌else◌, inl, inr, length, length-append, ltb-true, map, nat_le, nat_lt, ne_eqb, not, option_map, refl, suc, sym, true, zero, ℕ, ◌&&◌, ◌*◌, ◌++◌, ◌+◌, ◌-◌, ◌<◌, ◌==◌, ◌∙◌, ◌∷◌, ◌≡◌, ◌≢◌, ◌≤◌, ◌⊎◌}, lemmas.{Bool.{and_parts, cases_eq, not-true}, List.length-drop, Option.{option_and_then_some, same_Some}}}, specs.{Cmp.second_so, List.{list_all, list_any}}}
 use Rattle.token.specs.declared.name.Name.{Name, TheVariants.Listener as listener_name}
@@ -285,6 +285,6 @@ module _ (law : EveryInterleavingIsARun) (ends : LeftAloneItEnds) (server : Serv
       let more = rests_on xs n to (reach law server inside m x n r it) parts.1 rest in
       omega arith)
 
-pub every_server : EveryInterleavingIsARun → LeftAloneItEnds → ServersComeToRest
+pub every_server : EveryInterleavingIsARun → LeftAloneItEnds → LeftAloneServersEnd
 every_server law ends server before own m to inside ran are led =
     rests_on law ends server inside own m to (goes law server inside before (start server) m (first law server inside) ran).reached are led

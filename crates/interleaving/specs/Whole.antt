@@ -59,8 +59,8 @@ weight m = 2 * slots_weight m + shared_weight m
 
 -- From any state to which steps lead, no more own steps can follow, in any order and by any threads, than the server
 -- weighs, and two for each report of the waker
-abbrev pub ServersComeToRest : Type 0
-ServersComeToRest =
+abbrev pub LeftAloneServersEnd : Type 0
+LeftAloneServersEnd =
     (server : Server) (before own : List Step) (m next : Many) → ((s : ℕ) → server.owner s < server.limits.workers)
     → run (start server) before ≡ Some m → list_all is_own own ≡ true → run m own ≡ Some next
     → length own + weight next ≤ weight m + 2 * total wakes own

@@ -1,13 +1,13 @@
 //! What holds for every interleaving. The functions do nothing: the contract of each is the law that it is named after.
 ghost use Rattle.world.specs.CoreLaws.{CoreLaws};
-ghost use Rattle.interleaving.specs.{Likeness.{EveryInterleavingIsARun, EveryStepIsFollowed}, Rest.{LeftAloneItEnds, LeftAloneItRests}, Slots.SlotsStandApart, Threads.ProgramsAreThese, Whole.ServersComeToRest, Wires.WiresComeLate};
+ghost use Rattle.interleaving.specs.{Likeness.{EveryInterleavingIsARun, EveryStepIsFollowed}, Rest.{LeftAloneItEnds, LeftAloneItRests}, Slots.SlotsStandApart, Threads.ProgramsAreThese, Whole.LeftAloneServersEnd, Wires.WiresComeLate};
 
 use relay_core::laws;
 
 /// For each list of steps that threads make by their programs, in any order, there is a list of events, allowed one
 /// after the other from the machine's opening, that leads to a like state. Calls with replies, and what clock, network,
-/// kernel, listener and polls do, are the same, in one order. So are the exchanges of the slot's word with their answers,
-/// but that the machine may be ahead in an opening. And no act of a thread is in vain.
+/// kernel, listener and polls do, are the same, in one order. So are the exchanges of the slot's word with their
+/// answers, but that the machine may be ahead in an opening. And no act of a thread is in vain.
 #[tactic(auto, using(crate::proofs::Runs::every_interleaving))]
 pub fn every_interleaving_is_a_run()
     ensures { EveryInterleavingIsARun }
@@ -68,8 +68,8 @@ pub fn slots_stand_apart()
 /// more of its own steps can follow, in any order and by any of its threads, than it weighs, but for two for each
 /// report of the waker that a poll gives.
 #[tactic(auto, using(crate::proofs::Whole::every_server))]
-pub fn servers_come_to_rest()
-    ensures { ServersComeToRest }
+pub fn left_alone_servers_end()
+    ensures { LeftAloneServersEnd }
 {
     every_interleaving_is_a_run();
     left_alone_it_ends();

@@ -15,7 +15,8 @@ Deals settings split = (split.slots ≡ settings.slots) × (parts_of split.slots
 -- The threads of a server that served. Each poller and each worker of the settings had its part, as new, and ran to its end,
 -- with the settings' idle limit and by a clock that `tells` the seconds. The pollers' fronts began as `shown`, and answered
 -- accept(2) with no client only as `gave_none` says
-pub record RanAs (settings : Settings) (tells : ℕ → Type 0) (gave_none : Unaccepted → Type 0) (shown : List Seen) (served : Served) : Type 0 where
+pub record RanAs (settings : Settings) (tells : ℕ → Type 0) (gave_none : Unaccepted → Type 0) (shown : List Seen)
+    (served : Served) : Type 0 where
   pub split : Split
   pub deals : Deals settings split
   pub claims : TableId

@@ -98,7 +98,7 @@ impl<'a> Recorded<'a> {
 }
 
 impl Outcome {
-    /// The outcome of a server whose threads ended so: the lack of a thread, or what the thread with the lowest number met.
+    /// The outcome of a server whose threads ended so: the lack of a thread, or what the lowest number met.
     pub(crate) fn of(served: Served) -> Outcome
         ensures fault { result.fault ≡ fault_of served }
         ensures served { result.served ≡ Some served }

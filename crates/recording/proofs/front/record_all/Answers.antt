@@ -11,5 +11,6 @@ loop-front-preserved g c =
       left = rw (c.push_reserved.ensures.items, length-append) (omega (arith, c.in-Some.ensures.steps.1, was.left));
       room = rw c.push_reserved.ensures.capacity was.room;
       seen = rw (c.push_reserved.ensures.items, map-append, append_assoc, c.recorded.ensures.inner) (rw next at was.seen);
-      numbers = rw (c.push_reserved.ensures.items, map-append, length-append, was.numbers, c.recorded.ensures.number, c.len-poller.ensures, more) (ap (λ (n : ℕ). range_with_len 0 count ++ n ∷ []) (search rules));
+      numbers = rw (c.push_reserved.ensures.items, map-append, length-append, was.numbers, c.recorded.ensures.number, c.len-poller.ensures, more)
+          (ap (λ (n : ℕ). range_with_len 0 count ++ n ∷ []) (search rules));
     }
