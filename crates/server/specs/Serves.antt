@@ -12,9 +12,9 @@ use Rattle.server.specs.Begins.{all_begun, free_ends}
 abbrev pub Deals : Settings → Split → Type 0
 Deals settings split = (split.slots ≡ settings.slots) × (parts_of split.slots split.size ≡ pollers_for settings.slots settings.workers)
 
--- The threads of a server that served. Each poller and each worker of the settings had its part, as new, and ran to its end,
--- with the settings' idle limit and by a clock that `tells` the seconds. The pollers' fronts began as `shown`, and answered
--- accept(2) with no client only as `gave_none` says
+-- The threads of a server that served. Each poller and each worker of the settings had its part, as new, and ran to its end:
+-- a poller's rounds with the settings' idle limit, and by a clock that `tells` the seconds. The pollers' fronts began as
+-- `shown`, and answered accept(2) with no client only as `gave_none` says. Of a turn's clock and limit this says nothing
 pub record RanAs (settings : Settings) (tells : ℕ → Type 0) (gave_none : Unaccepted → Type 0) (shown : List Seen)
     (served : Served) : Type 0 where
   pub split : Split
