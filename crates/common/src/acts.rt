@@ -208,10 +208,11 @@ pub trait Moves<F: Front>: Acts {
 pub trait Gated<F: Front, G>: Moves<F> {
     ghost use Rattle.std.specs.Prelude.{◌≡◌, ◌≤◌, ℕ};
     ghost use Rattle.engine.specs.Turns.{outcome_of, IsServed, IsTurn};
+    ghost use Rattle.relay_core.specs.Pairs.{PairState};
     ghost use Rattle.common.specs.Acts as act;
 
-    // The gate heard that a turn at a slot began, and that it ended.
-    ghost heard: { G → ℕ → Type 0 };
+    // The gate heard that a turn at a slot began with the first of these pairs, and that it ended with the second.
+    ghost heard: { G → ℕ → PairState → PairState → Type 0 };
 
     /// [`Gate::before_turn`], then [`turn_with`] of a slot's connection, on its two wires, then [`Gate::after_turn`].
     fn play(
@@ -226,7 +227,7 @@ pub trait Gated<F: Front, G>: Moves<F> {
         requires least { 1 ≤ budget }
         requires most { budget ≤ 1024 }
         ensures made { Self.made act.Play slot self.old self.new }
-        ensures heard { heard gate.now slot }
+        ensures heard { heard gate.now slot berth.old.pair berth.new.pair }
         ensures played { Self.played berth.old berth.new self.new }
         ensures outcome { result ≡ outcome_of berth.new.pair }
         ensures run { IsTurn budget moment.second moment.limit berth.old.pair berth.new.pair
@@ -357,7 +358,7 @@ impl<F: Front> Moves<F> for () {
 impl<F: Front, G: Gate> Gated<F, G> for () {
     ghost use Rattle.std.specs.Prelude.{ℕ};
 
-    ghost heard = { λ gate slot. G.began gate slot × G.ended gate slot };
+    ghost heard = { λ gate slot before after. G.began gate slot before × G.ended gate slot after };
 
     #[inline(always)]
     fn play(
@@ -369,7 +370,7 @@ impl<F: Front, G: Gate> Gated<F, G> for () {
         moment: Moment,
         buffer: &mut [u8; MAX_READ],
     ) -> Turn {
-        gate.before_turn(slot);
+        gate.before_turn(slot, &berth.pair);
         let turn = turn_with(
             &mut berth.pair,
             &mut berth.client,
@@ -378,7 +379,7 @@ impl<F: Front, G: Gate> Gated<F, G> for () {
             moment,
             buffer,
         );
-        gate.after_turn(slot);
+        gate.after_turn(slot, &berth.pair);
         turn
     }
 }

@@ -16,6 +16,7 @@ use crate::{config, until_eof};
 use commands::{Relay, Source};
 use common::Gate;
 use log::{Log, Logged};
+use relay_core::Pair;
 use settings::{LogLevel, Settings};
 use sizes::ServerFault;
 use sockets::{Bound, Passed, Stop, bind};
@@ -267,7 +268,7 @@ impl<R: AllocGlobal + Env + Files + Eprint + Copy + Drop> Gate for Beside<R> {
         }
     }
 
-    fn before_turn(&self, _slot: usize) {}
+    fn before_turn(&self, _slot: usize, _pair: &Pair) {}
 
-    fn after_turn(&self, _slot: usize) {}
+    fn after_turn(&self, _slot: usize, _pair: &Pair) {}
 }

@@ -7,6 +7,7 @@ ghost use Rattle.records.specs.declared.act.Act.TheVariants as act;
 use crate::recorder::{Begun, Inner, Recorder, Sink};
 use common::{Clock, Gate};
 use records::Act;
+use relay_core::Pair;
 
 /// Shows the seconds of the clock in it. Each reading is recorded if there is an idle limit: a replay needs readings
 /// for nothing else.
@@ -76,27 +77,27 @@ impl<'r, G, S> RecordedGate<'r, G, S> {
 }
 
 impl<G: Gate, S: Sink> Gate for RecordedGate<'_, G, S> {
-    ghost began = { λ gate slot. G.began gate.inner.now slot };
+    ghost began = { λ gate slot pair. G.began gate.inner.now slot pair };
 
-    ghost ended = { λ gate slot. G.ended gate.inner.now slot };
+    ghost ended = { λ gate slot pair. G.ended gate.inner.now slot pair };
 
     fn all_started(&self) {
         self.inner.all_started();
     }
 
-    fn before_turn(&self, slot: usize)
-        ensures began { G.began self.now.inner.now slot }
+    fn before_turn(&self, slot: usize, pair: &Pair)
+        ensures began { G.began self.now.inner.now slot pair.now }
         ensures recorded { Beside S.did (RecordsAtOnce S.did (act.Begin slot)) self.now.recorder.sink }
     {
-        self.inner.before_turn(slot);
+        self.inner.before_turn(slot, pair);
         self.recorder.another().record_at_once(Act::Begin(slot));
     }
 
-    fn after_turn(&self, slot: usize)
-        ensures ended { G.ended self.now.inner.now slot }
+    fn after_turn(&self, slot: usize, pair: &Pair)
+        ensures ended { G.ended self.now.inner.now slot pair.now }
         ensures recorded { Beside S.did (RecordsAtOnce S.did (act.End slot)) self.now.recorder.sink }
     {
-        self.inner.after_turn(slot);
+        self.inner.after_turn(slot, pair);
         self.recorder.another().record_at_once(Act::End(slot));
     }
 }
