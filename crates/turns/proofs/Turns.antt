@@ -7,7 +7,7 @@ use Rattle.common.{proofs.Holding.holds_from, specs.{declared.{places.Berth.Bert
 use Rattle.ready.specs.{declared.ticket.Ticket.Ticket, Steps.QueueEnd}
 use Rattle.engine.specs.Turns.{outcome_of}
 use Rattle.sizes.specs.declared.faults.ServerFault.{ServerFault, TheVariants.Worn}
-use Rattle.turns.specs.{declared.worker.Worked.Worked, Turns.{noted_by, ActsLeft, Handled, Handles, IsLeft, StaysAs, Playing, RunRest, WasHeld, TurnInOrder, program, AtWork, TicketsKept, SlotGiven, SlotsKept, TurnDone, TurnRest, TurnMade}, Shares.{AreShared, IsLight, OneShared, Passed, Stays}}
+use Rattle.turns.specs.{declared.worker.Worked.Worked, Turns.{noted_by, ActsLeft, Handled, Handles, IsLeft, StaysAs, Playing, RunRest, WasHeld, TurnInOrder, program, AtWork, TicketsKept, SlotGiven, SlotsKept, TurnDone, TurnRest, TurnMade, ticket_of}, Shares.{AreShared, IsLight, OneShared, Passed, Stays}}
 use Rattle.claims.specs.declared.answers.Posted.TheVariants as posted
 use Rattle.engine.specs.declared.outcome.Turn.TheVariants as turn
 use Rattle.turns.specs.declared.worker.Worked.TheVariants as worked
@@ -74,7 +74,7 @@ own_of notes old now new settled =
 -- its notes were taken, its calls were made, and then the turn came to its end
 pub played_then : {S C T : Type 0} {acts : Handled C T → Made S} {plays : Playing C T} {t : Ticket} {a b c : Own} {from to : S} (mid then : S)
     (r : Answer) (notes : ℕ) (old now new : Berth C T) (settled : Option (Berth C T × Berth C T)) → let h = own_of notes old now new settled in
-    old.pair.generation ≡ t.generation → acts h act.TakeNotes t.slot from mid → acts h act.Play t.slot mid then → Adds t.slot (Take notes ∷ []) a.seat b.seat → Still a b
+    ticket_of old.pair ≡ t → acts h act.TakeNotes t.slot from mid → acts h act.Play t.slot mid then → Adds t.slot (Take notes ∷ []) a.seat b.seat → Still a b
     → ((h : Handled C T) → h.settled ≡ settled → h.left ≡ Some new → TurnRest (acts h) t r true 2 4 b c then to) → plays notes old now → EndsAs r h now new → RunRest acts plays t old r a c from to
 played_then mid then (Ok worked.Busy) notes old now new settled own taken called adds still rest ran ends = absurd ends.0
 played_then mid then (Ok worked.Gone) notes old now new settled own taken called adds still rest ran ends = absurd ends.0

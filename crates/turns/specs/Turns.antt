@@ -161,15 +161,19 @@ IsLeft (Ok worked.Ended) pair = (outcome_of pair ≡ turn.Done) ⊎ (outcome_of 
 IsLeft (Ok worked.Quiet) pair = outcome_of pair ≡ turn.Quiet
 IsLeft result pair = outcome_of pair ≡ turn.Again
 
--- A turn that is Gone found no connection of the ticket's generation, and put back what it found. One that got its slot and is
+-- the ticket of a connection
+abbrev pub ticket_of : PairState → Ticket
+ticket_of pair = record { slot = pair.slot; generation = pair.generation }
+
+-- A turn that is Gone found no connection that has the ticket, and put back what it found. One that got its slot and is
 -- not Gone found the ticket's own, played it after it took these notes, and put it back or closed it. One that is refused, since
 -- its seat is worn, put it back, as one that answers Again. A busy turn does not look
 abbrev pub Handles : {C T : Type 0} → Playing C T → ℕ → Ticket → Result Worked ServerFault → Handled C T → Type 0
 Handles plays notes ticket (Ok worked.Busy) h = Unit {0}
-Handles plays notes ticket (Ok worked.Gone) h = IfSome h.found (λ berth. berth.pair.generation ≢ ticket.generation) × (h.left ≡ h.found)
+Handles plays notes ticket (Ok worked.Gone) h = IfSome h.found (λ berth. ticket_of berth.pair ≢ ticket) × (h.left ≡ h.found)
 Handles plays notes ticket result h = (old : Berth _ _) × (played : Berth _ _) × (new : Berth _ _) × (h.found ≡ Some old)
     × (h.played ≡ Some (record old { pair = noted_by notes old.pair }, played)) × (h.left ≡ Some new)
-    × (old.pair.generation ≡ ticket.generation) × plays notes old played × StaysAs result h played new × IsLeft result new.pair
+    × (ticket_of old.pair ≡ ticket) × plays notes old played × StaysAs result h played new × IsLeft result new.pair
 
 -- the rest of a turn that found this connection of its own, once it was taken out, and what the turn did with it
 pub record RunRest {S C T : Type 0} (made : Handled C T → Made S) (plays : Playing C T) (ticket : Ticket) (connection : Berth C T)

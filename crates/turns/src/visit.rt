@@ -3,7 +3,7 @@ ghost use Rattle.std.specs.Prelude.{◌≡◌, ℕ, ◌<◌, ◌≤◌, [], ◌�
 ghost use Rattle.claims.specs.Seats.{Adds};
 ghost use Rattle.engine.specs.Turns.{outcome_of, IsServed};
 ghost use Rattle.common.specs.{Posts.HoldsOnly, Told.{ended_by, moved_by}};
-ghost use Rattle.turns.specs.Turns.{noted_by, Plays};
+ghost use Rattle.turns.specs.Turns.{noted_by, ticket_of, Plays};
 ghost use Rattle.claims.specs.declared.view.Exchange.TheVariants as exchange;
 ghost use Rattle.common.specs.Acts as act;
 
@@ -106,6 +106,16 @@ impl<F: Front> Visit<F> {
         ensures { result.now ≡ self.now.berth.value.pair }
     {
         &self.berth.pair
+    }
+
+    /// The ticket of the connection that was found. It may be another than that of the visit.
+    pub(crate) fn found(&self) -> Ticket
+        ensures { result ≡ ticket_of self.now.berth.value.pair }
+    {
+        Ticket {
+            slot: self.berth.pair.slot(),
+            generation: self.berth.pair.generation(),
+        }
     }
 
     /// Takes the notes of the slot, which raise the connection's flags, and makes its calls on its two wires, between

@@ -3,7 +3,7 @@ ghost use Rattle.std.specs.{Prelude.{◌≡◌, ◌<◌, ◌≤◌, true, false,
 ghost use Rattle.engine.specs.Turns.{IsServed};
 ghost use Rattle.common.specs.{declared.places.Berth.Berth, Hands.HasRoom, Outgoing.KeepsSlot, Posts.{AtRest, IsWorn, OnlyWorn}};
 ghost use Rattle.token.specs.Names.{last_generation};
-ghost use Rattle.turns.specs.Turns.{AtWork, Handled, Handling, LeftSlot, Plays, PlaysAt, RunRest, TurnInOrder, TurnRest, WorkerTurn};
+ghost use Rattle.turns.specs.Turns.{AtWork, Handled, Handling, LeftSlot, Plays, PlaysAt, RunRest, TurnInOrder, TurnRest, WorkerTurn, ticket_of};
 
 use crate::giving::{give_back, put_ticket};
 use crate::visit::{Back, Terms, Visit, put_in, take_out};
@@ -107,7 +107,7 @@ pub(crate) fn turn_of<F: Front, A: Gated<F, G>, G, C: Clock, R: Wait + Log>(
     match acts.claim(&shared.claims, &mut own.seat, ticket.slot) {
         Claimed::Busy => Some(Worked::Busy),
         Claimed::Held => match take_out(rt, acts, shared, own, ticket) {
-            Ok(visit) if visit.pair().generation() == ticket.generation => {
+            Ok(visit) if visit.found() == ticket => {
                 let terms = Terms { budget, moment };
                 run(rt, acts, shared, own, gate, visit, terms)
             }
@@ -154,7 +154,7 @@ fn run<F: Front, A: Gated<F, G>, G, R: Wait + Log>(
     terms: Terms,
 ) -> Option<Worked>
     requires work { AtWork shared.now.claims visit.ticket.slot own.old }
-    requires own { visit.berth.value.pair.generation ≡ visit.ticket.generation }
+    requires own { ticket_of visit.berth.value.pair ≡ visit.ticket }
     ensures done { RunRest (Handling A.found A.played A.moved A.made)
         (Plays (IsServed F.Client.told F.Client.does) (IsServed F.Target.told F.Target.does)
         terms.budget terms.moment.second terms.moment.limit)

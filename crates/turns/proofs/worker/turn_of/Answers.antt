@@ -1,6 +1,5 @@
-use Rattle.std.proofs.Common.{[], ◌∷◌, ◌∙◌, None, Some, ap, arith, false, refl}
+use Rattle.std.proofs.Common.{[], ◌∷◌, None, Some, arith, false, refl, rules}
 use Rattle.claims.{specs.declared.view.Exchange.TheVariants.{Busy}, proofs.Seats.{adds_none}}
-use Rattle.relay_core.specs.Pairs.{PairState}
 use Rattle.turns.{specs.Turns.{Handled, Handling}, proofs.Turns.{at_work, held_made, own_made, rests}}
 use Rattle.turns.proofs.worker.turn_of.Goals as goal
 
@@ -61,7 +60,6 @@ returns-in-Ok-2-clause-made g c =
     let other = Some c.in-Ok.visit.berth.value in
     let h : Handled _ _ = record { found = other; played = None; settled = None; left = other } in
     let rest = c.give_up.ensures.done h in
-    let read = c.generation.ensures ∙ ap (λ (p : PairState). p.generation) c.pair.ensures in
     held_made (Handling g.A.Moves.found g.A.Moves.played g.A.Moves.moved g.A.Acts.made) (λ notes x y. Unit {0}) _ _ (omega arith) c.in-Held.ensures.change.1
     rest.noted rest.woke h tt rest.done (
       _,
@@ -72,7 +70,7 @@ returns-in-Ok-2-clause-made g c =
         (_, (rw c.in-Ok.ensures.out at c.put_in-back.ensures.made, c.put_in-back.ensures.moved), rest.acts),
       ),
     )
-    ((λ same. c.if-generation-ticket.false (read ∙ same)), refl)
+    ((λ same. search rules), refl)
 
 pub returns-in-Ok-2-clause-rest : goal.returns-in-Ok-2-clause-rest
 returns-in-Ok-2-clause-rest g c = rests c.requires.rest (returns-in-Ok-2-clause-made g c).0
