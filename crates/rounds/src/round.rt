@@ -176,8 +176,8 @@ fn polled<R: Log>(rt: &R, answer: io::Result<()>) -> bool
     }
 }
 
-/// Delivers the reports of the batch. Returns whether the listener was reported. No note goes to another poller's slot:
-/// the table has no connection there.
+/// Delivers the reports of the batch. Returns whether the listener was reported, also if the seat is worn: its round
+/// goes on, and is refused at its end. No note goes to another poller's slot: the table has no connection there.
 fn deliver_batch<F: Front, A: Acts>(
     acts: &mut A,
     shared: &Shared<F, A>,
@@ -193,7 +193,10 @@ fn deliver_batch<F: Front, A: Acts>(
 {
     let (table, batch) = (poller.table(), poller.batch());
     let hand = &mut own.hand;
-    deliver_by(acts, &shared.claims, &mut own.seat, table, batch, hand)
+    match deliver(acts, &shared.claims, &mut own.seat, table, batch, hand) {
+        Ok(listener) => listener,
+        Err(_) => batch.contains(&LISTENER),
+    }
 }
 
 /// If a client waits for a slot, the poller is full from now on, until accept(2) answers that nobody waits. If all
