@@ -136,24 +136,29 @@ pub record NotBegun (old new : PollerState) (had has : Own) : Type 0 where
 abbrev pub MayAccept : PollerState → Own → Type 0
 MayAccept p own = (p.accepting ≡ true) × (HasOpenedAll p → ⊥) × (1 ≤ length own.hand.slots)
 
--- why the poller does not wait: a sweep is due, or a ticket is in hand, or a connection may be accepted now, accept(2)
--- was not starved, and no client was left to other pollers
-abbrev pub MayNotWait : ℕ → PollerState → Own → Type 0
-MayNotWait limit p own = (is_due limit p ≡ true) ⊎ ((own.hand.tickets ≢ []) ⊎ ((p.starved ≡ false) × (p.left ≡ false) × MayAccept p own))
+-- a free slot was in hand, or one was taken out of the queue since
+abbrev pub GotSlot : Own → Own → Type 0
+GotSlot had has = (1 ≤ length had.hand.slots) ⊎ (length had.free.history.taken < length has.free.history.taken)
 
--- a wait for reports is as long as it may be now
+-- why the poller does not wait: a sweep is due, or a ticket was in hand, or a connection may be waiting, the poller may open
+-- more and got a free slot, accept(2) was not starved, and no client was left to other pollers
+abbrev pub MayNotWait : ℕ → PollerState → Own → Own → Type 0
+MayNotWait limit p had has = (is_due limit p ≡ true) ⊎ ((had.hand.tickets ≢ [])
+    ⊎ ((p.starved ≡ false) × (p.left ≡ false) × (p.accepting ≡ true) × (HasOpenedAll p → ⊥) × GotSlot had has))
+
+-- a wait for reports is as long as it may be with what the thread owns now
 abbrev pub WaitsAsMay : Waiting → ℕ → PollerState → Own → Type 0
 WaitsAsMay waiting.Long limit p own = MayWait limit p own
 WaitsAsMay waiting.Brief limit p own = MayWaitBriefly limit p own
-WaitsAsMay waiting.No limit p own = MayNotWait limit p own
+WaitsAsMay waiting.No limit p own = MayNotWait limit p own own
 
 -- For how many milliseconds a round waited for reports, and why: for as long as its front ever waits, for one, or not at
 -- all
-abbrev pub WaitedAsMay : ℕ → PollerState → PollerState → Own → Type 0
-WaitedAsMay limit old new had =
+abbrev pub WaitedAsMay : ℕ → PollerState → PollerState → Own → Own → Type 0
+WaitedAsMay limit old new had has =
     ((new.seen.waited ≡ old.seen.longest) × MayWait limit old had)
     ⊎ (((new.seen.waited ≡ 1) × MayWaitBriefly limit old had)
-    ⊎ ((new.seen.waited ≡ 0) × (has : Own) × OnlyTook had has × MayNotWait limit old has))
+    ⊎ ((new.seen.waited ≡ 0) × MayNotWait limit old had has))
 
 -- a client waits for a slot: the listener was reported, and the poller may open more, but no slot is free
 pub record IsFull (p : PollerState) (own : Own) : Type 0 where
