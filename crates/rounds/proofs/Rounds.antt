@@ -6,7 +6,7 @@ use Rattle.common.{specs.{Posts.{HoldsOnly, IsWorn, OnlyWorn}, declared.{places.
 use Rattle.sizes.specs.{declared.split.Part.Part, Splits.IsIn}
 use Rattle.ready.specs.declared.ticket.Ticket.{Ticket}
 use Rattle.relay_core.specs.Pairs.{PairState}
-use Rattle.rounds.{specs.{declared.episodes.Episodes.Episodes, Acts.{SeatAct, opening, ActsMade, AreTries, InOrder, all_reported, ArePosted, sweep_of}, Openings.{times, with_slot, AreOpened, OnlyTook, SlotsCounted, Between, Started, Connected, AcceptDone, OneAccepted, OnlyAccepted, unmarked, IsOpened, IsSpent, AreLost, IsNext, SameQueues, Fate, LeadGiven, Registered, next_in, Opened, Dropped, Spent, NotFree, DropsFor, ActsOf, DropMade, TriedOnce, TriesMade, TriesNext, TryMade, lacks, lead_of}, Pollers.{PollerState, Counted, counted_up, HasOpenedAll}, Episodes.{flag_after, starved_after}, Rounds.{AcceptEnded, AllPosted, RoundInOrder, ListenerKept, ListensNoMore, ListensToOpen, Looked, OnlyAnswered, OnlyListens, RoundRefused, WaitedAsMay, WaitsAsMay}}, proofs.Acts.{at_slot-append, acts_none, acts_one, acts_both, in_order, none_at, try_dropped, try_opened, tries_none, tries_both, holds_nothing_still, posted_none, posts_still, no_sweep}}
+use Rattle.rounds.{specs.{declared.episodes.Episodes.Episodes, Acts.{SeatAct, opening, ActsMade, AreTries, InOrder, all_reported, ArePosted, sweep_of}, Openings.{times, with_slot, AreOpened, OnlyTook, SlotsCounted, Between, Started, Connected, AcceptDone, OneAccepted, OnlyAccepted, unmarked, IsOpened, IsSpent, AreLost, IsNext, SameQueues, Fate, LeadGiven, Registered, next_in, Opened, Dropped, Spent, NotFree, DropsFor, ActsOf, DropMade, TriedOnce, TriesMade, TriesNext, TryMade, lacks, lead_of}, Pollers.{PollerState, Counted, counted_up, HasOpenedAll}, Episodes.{flag_after, starved_after}, Rounds.{AcceptEnded, AllPosted, RoundInOrder, ListenerKept, ListensNoMore, ListensToOpen, Looked, OnlyAnswered, OnlyListens, RoundRefused, MayNotWait, WaitedAsMay, WaitsAsMay}}, proofs.Acts.{at_slot-append, acts_none, acts_one, acts_both, in_order, none_at, try_dropped, try_opened, tries_none, tries_both, holds_nothing_still, posted_none, posts_still, no_sweep}}
 use Rattle.sizes.specs.declared.{cause.Cause.{Cause}, faults.ServerFault.{ServerFault, TheVariants.{Poll, Worn}}}
 use Rattle.claims.specs.declared.view.Exchange.TheVariants as exchange
 use Rattle.claims.specs.declared.answers.Posted.TheVariants as posted
@@ -89,6 +89,7 @@ connected_both {us} {bs} {p} {q} {r} {a} one two = record {
   tickets = rw (two.tickets, one.tickets) (append_assoc a.hand.tickets one.opened two.opened);
   ready = two.ready ∙ one.ready;
   gave = two.gave ∙ one.gave;
+  grew = omega (arith, one.grew, two.grew);
   slots = λ slot. omega (arith, one.slots slot, two.slots slot, at_slot-append slot one.opened two.opened, times-append slot one.lost two.lost);
 }
 
@@ -100,8 +101,8 @@ SamePoller p q = record { table : q.table ≡ p.table; heavy : q.heavy ≡ p.hea
 pub none_opened : {p q : PollerState} {a b : Own} (tries : List SeatAct) (lost not_free : List ℕ) → AreTries [] not_free tries → ActsMade tries a.seat b.seat
     → InOrder (TriesNext p.part) tries p.table p.table → q.table ≡ p.table → q.heavy ≡ p.heavy → q.opened ≡ p.opened → Counted p.lost (length lost) q.lost
     → AreLost q not_free lost → OnlyAccepted p q → b.hand.tickets ≡ a.hand.tickets → b.ready ≡ a.ready → b.free.history.put ≡ a.free.history.put
-    → SlotsCounted a b [] lost → Connected tries p q a b
-none_opened {a = a} tries lost not_free are made next table heavy opened unused why poller tickets ready gave slots = record {
+    → length a.free.history.taken ≤ length b.free.history.taken → SlotsCounted a b [] lost → Connected tries p q a b
+none_opened {a = a} tries lost not_free are made next table heavy opened unused why poller tickets ready gave grew slots = record {
   opened = [];
   lost = lost;
   not_free = not_free;
@@ -118,6 +119,7 @@ none_opened {a = a} tries lost not_free are made next table heavy opened unused 
   tickets = tickets ∙ sym (append-nil a.hand.tickets);
   ready = ready;
   gave = gave;
+  grew = grew;
   slots = slots;
 }
 
@@ -127,7 +129,7 @@ room_same took = rw (took.capacity, took.tickets)
 -- slots were taken, and nothing was opened
 took_only : {p q : PollerState} {a b : Own} → SamePoller p q → OnlyTook a b → Connected [] p q a b
 took_only {a = a} same took = none_opened [] [] [] tries_none (rw took.seat (acts_none a.seat)) refl same.table same.heavy same.opened (counted_same same.lost) refl same.poller
-    took.tickets took.ready took.gave took.slots
+    took.tickets took.ready took.gave took.grew took.slots
 
 pub accept_took : {acted : List SeatAct → Type 0} {p q : PollerState} {a b : Own} → acted [] → SamePoller p q → OnlyTook a b → OneAccepted acted p q a b
 accept_took none same took = record { tries = []; acts = none; did = took_only same took; room = omega (arith, room_same took) }
@@ -182,7 +184,7 @@ module _ {p q : PollerState} {a : Own} {hand : HandState} {slot : ℕ} (taken : 
     tries = [];
     acts = none;
     did = rw lost (none_opened [] (slot ∷ []) [] tries_none (acts_none a.seat) refl refl refl refl (counted_one _ p.lost _ refl) (inl (spent, refl)) refl
-        (rw taken) refl refl (λ s. rw taken (omega (arith, times_first s a.hand.slots slot is))));
+        (rw taken) refl refl (omega arith) (λ s. rw taken (omega (arith, times_first s a.hand.slots slot is))));
     room = rw taken (omega arith);
   }
 
@@ -196,7 +198,7 @@ module _ {p q : PollerState} {a : Own} {hand : HandState} {slot : ℕ} (taken : 
         acts = acts;
         did = none_opened (try ∷ []) [] [] (try_dropped (next_in p slot)) (acts_one try a.seat a.seat (adds_none slot a.seat))
             (p.table, record { own = own; next = refl; entered = refl }, refl) same.table same.heavy same.opened (counted_same same.lost) refl same.poller
-            (rw (again, taken)) refl refl (λ s. rw (again, taken) (omega (arith, times_first s a.hand.slots slot is, times-append s (drop 1 a.hand.slots) (slot ∷ []))));
+            (rw (again, taken)) refl refl (omega arith) (λ s. rw (again, taken) (omega (arith, times_first s a.hand.slots slot is, times-append s (drop 1 a.hand.slots) (slot ∷ []))));
         room = rw (again, taken) (omega arith);
       }
 
@@ -301,6 +303,7 @@ opened_once {t = t} {p = p} {a = a} {found = found} acts (inr started) next adop
         tickets = rw started.hand;
         ready = queues.ready;
         gave = rw queues.free;
+        grew = rw queues.free (omega arith);
         slots = λ s. rw (queues.free, started.hand) (omega (arith, times-append s (t.slot ∷ []) a.hand.slots));
       };
       room = rw started.hand (omega (arith, length-append a.hand.tickets (t ∷ [])));
@@ -435,14 +438,22 @@ ended_still ended (inr all) = inl (inr (inr (inr all)))
 pub kept : (p q : PollerState) → ListensNoMore p q → ListenerKept p q
 kept p q listens = grind arith
 
+-- a slot that is in hand was so before, or was taken
+waits_not : (limit : ℕ) (p : PollerState) (a b : Own) → OnlyTook a b → MayNotWait limit p b b → MayNotWait limit p a b
+waits_not limit p a b took may = grind (arith, took.gained, took.tickets)
+
+-- why it waited so is the same once more slots were taken
+pub waits_still : (limit : ℕ) (p q : PollerState) (a b c : Own) → WaitedAsMay limit p q a b → length b.free.history.taken ≤ length c.free.history.taken → WaitedAsMay limit p q a c
+waits_still limit p q a b c waited grew = grind arith
+
 -- the poller waits only where it may, and for as long
 pub waits_if : (waiting : Waiting) (limit : ℕ) (p q r : PollerState) (a b : Own) → OnlyListens p q → WaitsAsMay waiting limit q b
-    → (waiting ≡ Long → b ≡ a) → OnlyTook a b → Waited waiting q.seen r.seen → WaitedAsMay limit p r a
+    → (waiting ≡ Long → b ≡ a) → OnlyTook a b → Waited waiting q.seen r.seen → WaitedAsMay limit p r a b
 waits_if Long limit p q r a b same may still took waited = inl (ap (λ (s : Seen). s.waited) waited ∙ ap (λ (s : PollerState). s.seen.longest) same, rw (same, still refl) at may)
 waits_if Brief limit p q r a b same may still took waited =
     let left = rw same at may in
     inr (inl (ap (λ (s : Seen). s.waited) waited, (left.0, sym took.tickets ∙ left.1, left.2)))
-waits_if No limit p q r a b same may still took waited = inr (inr (ap (λ (s : Seen). s.waited) waited, b, took, rw same at may))
+waits_if No limit p q r a b same may still took waited = inr (inr (ap (λ (s : Seen). s.waited) waited, waits_not limit p a b took (rw same at may)))
 
 -- what the steps of a round leave as it was after the look, but that the front may listen no longer
 pub lasts : (q : PollerState) {r v w t u : PollerState} {up : Bool} {logged : Episodes} → r ≡ record q { accepting = up } → v ≡ record r { second = v.second; swept = v.swept }

@@ -76,7 +76,7 @@ SlotsCounted had has opened lost =
     (slot : ℕ) → times slot (slots_in has) + times slot had.hand.slots
     ≡ times slot (slots_in had) + (times slot has.hand.slots + (at_slot slot opened + times slot lost))
 
--- free slots were taken in hand, and nothing else changed
+-- free slots were taken in hand, as many as the queue gave, and nothing else changed
 pub record OnlyTook (had has : Own) : Type 0 where
   pub seat : has.seat ≡ had.seat
   pub ready : has.ready ≡ had.ready
@@ -84,6 +84,8 @@ pub record OnlyTook (had has : Own) : Type 0 where
   pub capacity : has.hand.capacity ≡ had.hand.capacity
   pub gave : has.free.history.put ≡ had.free.history.put
   pub slots : SlotsCounted had has [] []
+  pub grew : length had.free.history.taken ≤ length has.free.history.taken
+  pub gained : length has.hand.slots + length had.free.history.taken ≡ length had.hand.slots + length has.free.history.taken
 
 -- the rest of an opening, after its slot was adopted: its one ticket is in hand
 pub record Started (ticket : Ticket) (old new : Own) : Type 0 where
@@ -142,6 +144,7 @@ pub record Connected (tries : List SeatAct) (old new : PollerState) (had has : O
   pub tickets : has.hand.tickets ≡ had.hand.tickets ++ opened
   pub ready : has.ready ≡ had.ready
   pub gave : has.free.history.put ≡ had.free.history.put
+  pub grew : length had.free.history.taken ≤ length has.free.history.taken
   pub slots : SlotsCounted had has opened lost
 
 -- a connection was opened: its slot has its generation, and no heavy marks, and nothing else of the poller changed

@@ -1,6 +1,6 @@
 -- What a round of the poller does. Of four states the first two are the poller's, before and after, and the last two
 -- what its thread owns.
-use Rattle.std.specs.Prelude.{◌≡◌, ◌≢◌, ◌⊎◌, ◌↔◌, ℕ, ◌+◌, ◌<◌, ◌≤◌, true, false, List, [], ◌++◌, length, Contains, Result, Err}
+use Rattle.std.specs.Prelude.{◌≡◌, ◌≢◌, ◌⊎◌, ℕ, ◌+◌, ◌<◌, ◌≤◌, true, false, List, [], ◌++◌, length, Contains}
 use Rattle.ready.specs.declared.ticket.Ticket.{Ticket}
 use Rattle.common.specs.{declared.{front.{Route.Route, Unaccepted.Unaccepted, Waiting.Waiting}, places.Berth.Berth, shared.Own.Own}, Acts.Made, Hands.ticket_room, Outgoing.tickets_out, Posts.{IsWorn, OnlyWorn}}
 use Rattle.sizes.specs.declared.split.Part.{Part}
@@ -136,24 +136,29 @@ pub record NotBegun (old new : PollerState) (had has : Own) : Type 0 where
 abbrev pub MayAccept : PollerState → Own → Type 0
 MayAccept p own = (p.accepting ≡ true) × (HasOpenedAll p → ⊥) × (1 ≤ length own.hand.slots)
 
--- why the poller does not wait: a sweep is due, or a ticket is in hand, or a connection may be accepted now, accept(2)
--- was not starved, and no client was left to other pollers
-abbrev pub MayNotWait : ℕ → PollerState → Own → Type 0
-MayNotWait limit p own = (is_due limit p ≡ true) ⊎ ((own.hand.tickets ≢ []) ⊎ ((p.starved ≡ false) × (p.left ≡ false) × MayAccept p own))
+-- a free slot was in hand, or one was taken out of the queue since
+abbrev pub GotSlot : Own → Own → Type 0
+GotSlot had has = (1 ≤ length had.hand.slots) ⊎ (length had.free.history.taken < length has.free.history.taken)
 
--- a wait for reports is as long as it may be now
+-- why the poller does not wait: a sweep is due, or a ticket was in hand, or a connection may be waiting, the poller may open
+-- more and got a free slot, accept(2) was not starved, and no client was left to other pollers
+abbrev pub MayNotWait : ℕ → PollerState → Own → Own → Type 0
+MayNotWait limit p had has = (is_due limit p ≡ true) ⊎ ((had.hand.tickets ≢ [])
+    ⊎ ((p.starved ≡ false) × (p.left ≡ false) × (p.accepting ≡ true) × (HasOpenedAll p → ⊥) × GotSlot had has))
+
+-- a wait for reports is as long as it may be with what the thread owns now
 abbrev pub WaitsAsMay : Waiting → ℕ → PollerState → Own → Type 0
 WaitsAsMay waiting.Long limit p own = MayWait limit p own
 WaitsAsMay waiting.Brief limit p own = MayWaitBriefly limit p own
-WaitsAsMay waiting.No limit p own = MayNotWait limit p own
+WaitsAsMay waiting.No limit p own = MayNotWait limit p own own
 
 -- For how many milliseconds a round waited for reports, and why: for as long as its front ever waits, for one, or not at
 -- all
-abbrev pub WaitedAsMay : ℕ → PollerState → PollerState → Own → Type 0
-WaitedAsMay limit old new had =
+abbrev pub WaitedAsMay : ℕ → PollerState → PollerState → Own → Own → Type 0
+WaitedAsMay limit old new had has =
     ((new.seen.waited ≡ old.seen.longest) × MayWait limit old had)
     ⊎ (((new.seen.waited ≡ 1) × MayWaitBriefly limit old had)
-    ⊎ ((new.seen.waited ≡ 0) × (has : Own) × OnlyTook had has × MayNotWait limit old has))
+    ⊎ ((new.seen.waited ≡ 0) × MayNotWait limit old had has))
 
 -- a client waits for a slot: the listener was reported, and the poller may open more, but no slot is free
 pub record IsFull (p : PollerState) (own : Own) : Type 0 where
@@ -174,13 +179,11 @@ pub record IsOver (p : PollerState) (own : Own) : Type 0 where
 abbrev pub LooksForAll : PollerState → Own → Type 0
 LooksForAll p own = HasOpenedAll p → IsBack p own → p.over ≡ true
 
--- A round that began, and whose poll did not fail: it is refused exactly if the seat is worn then. It delivered what its
--- front reported, at a second that the clock may show. A sweep was made if one was due, accepting ended for a reason, the
--- accept flag is up only by a report or as before, it is down and accept(2) starved only by an answer or as before, and no
--- drop is left to be logged at this second
-pub record RoundEnded (result : Result (Unit {0}) ServerFault) (tells : ℕ → Type 0) (gave_none : Unaccepted → Type 0) (limit : ℕ)
-    (old new : PollerState) (has : Own) : Type 0 where
-  pub answer : (result ≡ Err server_fault.Worn) ↔ IsWorn has.seat
+-- A round that began, and whose poll did not fail. It delivered what its front reported, at a second that the clock may
+-- show. A sweep was made if one was due, accepting ended for a reason, the accept flag is up only by a report or as before,
+-- it is down and accept(2) starved only by an answer or as before, and no drop is left to be logged at this second
+pub record RoundEnded (tells : ℕ → Type 0) (gave_none : Unaccepted → Type 0) (limit : ℕ) (old new : PollerState)
+    (has : Own) : Type 0 where
   pub read : new.batch ≡ new.seen.reported
   pub second : tells new.second
   pub swept : new.swept ≡ swept_after limit old.second old.swept

@@ -11,15 +11,16 @@ use sizes::{LISTENER, ServerFault};
 use token::{Name, unpack};
 
 /// Posts a note for each report of a batch, and adds a ticket to the hand for each post that answers Wake. Returns
-/// whether the listener was reported.
+/// whether the listener was reported. The posts are made by `acts`; the server's is `()`.
 ///
 /// The batch has the numbers of the tokens that were reported, in order (epoll_wait(2)). The table has each slot's
 /// generation. A number that names no end, such as the waker's, leaves no note. Neither does an end whose slot the
 /// table lacks or has with another generation: that end's connection was closed after the report arrived.
 ///
-/// The only refusal is `Worn`, exactly if the seat has posted 2^56 times then. It posts no more: the last reports may
-/// not be delivered.
-pub fn deliver(
+/// The only refusal is `Worn`, exactly if the seat has posted 2^56 times then. Its further posts are made, but leave no
+/// note: the last reports may not be delivered.
+pub fn deliver<A: Acts>(
+    acts: &mut A,
     claims: &Claims,
     seat: &mut ClaimSeat,
     table: &[u64],
@@ -30,14 +31,17 @@ pub fn deliver(
     requires idle { HoldsNothing seat.old }
     requires sized { length table.now ≡ claims.now.words }
     requires room { length batch.now ≤ ticket_room hand.old }
+    ensures made { PostsMade A.made (all_reported table.now batch.now) acts.old acts.new }
     ensures delivered { Delivered table.now batch.now seat.old seat.new hand.old hand.new }
     ensures listener { IfOk result (λ reported. IsTrue reported ↔ Contains batch.now 0) }
     ensures worn { MatchResult result (λ _. IsWorn seat.new → ⊥) (λ fault. OnlyWorn fault seat.new) }
     ensures idle { HoldsNothing seat.new }
 {
-    let listener = deliver_by(&mut (), claims, seat, table, batch, hand);
+    for number in batch {
+        post_note(acts, claims, seat, connection(table, *number), hand);
+    }
     refuse_worn(seat)?;
-    Ok(listener)
+    Ok(batch.contains(&LISTENER))
 }
 
 /// Refuses with `Worn` if the seat posts no more.
@@ -48,30 +52,6 @@ pub(crate) fn refuse_worn(seat: &ClaimSeat) -> Result<(), ServerFault>
         return Err(ServerFault::Worn);
     }
     Ok(())
-}
-
-/// [`deliver`] by any acts: a post for each note, also of a worn seat.
-pub(crate) fn deliver_by<A: Acts>(
-    acts: &mut A,
-    claims: &Claims,
-    seat: &mut ClaimSeat,
-    table: &[u64],
-    batch: &[u64],
-    hand: &mut Hand,
-) -> bool
-    requires same { seat.old.table ≡ claims.now }
-    requires idle { HoldsNothing seat.old }
-    requires sized { length table.now ≡ claims.now.words }
-    requires room { length batch.now ≤ ticket_room hand.old }
-    ensures made { PostsMade A.made (all_reported table.now batch.now) acts.old acts.new }
-    ensures delivered { Delivered table.now batch.now seat.old seat.new hand.old hand.new }
-    ensures listener { IsTrue result ↔ Contains batch.now 0 }
-    ensures idle { HoldsNothing seat.new }
-{
-    for number in batch {
-        post_note(acts, claims, seat, connection(table, *number), hand);
-    }
-    batch.contains(&LISTENER)
 }
 
 /// Posts a note at the ticket's slot, and adds the ticket to the hand if the post answers Wake. None does nothing.

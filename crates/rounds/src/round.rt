@@ -3,7 +3,7 @@ ghost use Rattle.std.specs.{Prelude.{◌≡◌, ◌⊎◌, ◌+◌, ◌-◌, ◌
 ghost use Rattle.rounds.specs.{Acts.{all_reported}, Episodes.{episodes_after, flag_after, starved_after}, Openings.{Between, OnlyTook, AcceptDone, OneAccepted, TriesMade}, Pollers.{HasOpenedAll, max_accepts, spare_room}, Rounds.{AcceptEnded, AllPosted, EndedEarly, IsFull, IsOver, ListensNoMore, ListensToOpen, Looked, LooksForAll, MayAccept, NoSlot, NoneToAccept, NotBegun, OnlyAnswered, OnlyListens, RoundEnded, RoundInOrder, RoundKeeps, RoundRefused, WaitedAsMay, WaitsAsMay}};
 ghost use Rattle.common.specs.{Hands.{HasRoom, ticket_room}, Posts.IsWorn, Told.{unaccepted_of, Waited}};
 
-use crate::delivering::{deliver_by, refuse_worn};
+use crate::delivering::{deliver, refuse_worn};
 use crate::opening::open;
 use crate::poller::Poller;
 use crate::sweeping::{is_due, keep_time};
@@ -58,11 +58,12 @@ pub fn poller_round<F: Front, A: Moves<F>, C: Clock, R: Wait + Log>(
     requires between { Between shared.now.claims own.old poller.old }
     ensures between { Between shared.now.claims own.new poller.new }
     ensures early { EndedEarly shared.now.claims.words own.old → IsOk result × NotBegun poller.old poller.new own.old own.new }
-    ensures waits { EndedEarly shared.now.claims.words own.old ⊎ WaitedAsMay timing.now.limit poller.old poller.new own.old }
+    ensures waits { EndedEarly shared.now.claims.words own.old ⊎ WaitedAsMay timing.now.limit poller.old poller.new own.old own.new }
     ensures made { RoundInOrder A.moved A.named A.made F.may_tell poller.old poller.new own.old own.new acts.old acts.new }
     ensures none { EndedEarly shared.now.claims.words own.old ⊎ (result ≡ Err ServerFault.Poll) → acts.new ≡ acts.old }
     ensures ended { EndedEarly shared.now.claims.words own.old ⊎ ((result ≡ Err ServerFault.Poll)
-        ⊎ RoundEnded result (C.tells timing.now.clock.now) F.gave_none timing.now.limit poller.old poller.new own.new) }
+        ⊎ (((result ≡ Err ServerFault.Worn) ↔ IsWorn own.new.seat)
+        × RoundEnded (C.tells timing.now.clock.now) F.gave_none timing.now.limit poller.old poller.new own.new)) }
     ensures keeps { RoundKeeps timing.now.limit poller.old poller.new own.old own.new }
     ensures refused { IfErr result (λ fault. RoundRefused fault poller.old poller.new own.old own.new) }
 {
@@ -98,7 +99,7 @@ fn look<F: Front, R: Wait + Log>(rt: &R, own: &mut Own, poller: &mut Poller<F>, 
     requires room { 1 ≤ ticket_room own.old.hand }
     ensures took { OnlyTook own.old own.new }
     ensures poller { Looked poller.old poller.new }
-    ensures waits { WaitedAsMay limit poller.old poller.new own.old }
+    ensures waits { WaitedAsMay limit poller.old poller.new own.old own.new }
     ensures listens { ListensNoMore poller.old poller.new }
     ensures longest { poller.new.seen.longest ≡ poller.old.seen.longest }
     ensures batch { poller.new.batch ≡ poller.new.seen.reported }
@@ -175,8 +176,8 @@ fn polled<R: Log>(rt: &R, answer: io::Result<()>) -> bool
     }
 }
 
-/// Delivers the reports of the batch. Returns whether the listener was reported. No note goes to another poller's slot:
-/// the table has no connection there.
+/// Delivers the reports of the batch. Returns whether the listener was reported, also if the seat is worn: its round
+/// goes on, and is refused at its end. No note goes to another poller's slot: the table has no connection there.
 fn deliver_batch<F: Front, A: Acts>(
     acts: &mut A,
     shared: &Shared<F, A>,
@@ -192,7 +193,10 @@ fn deliver_batch<F: Front, A: Acts>(
 {
     let (table, batch) = (poller.table(), poller.batch());
     let hand = &mut own.hand;
-    deliver_by(acts, &shared.claims, &mut own.seat, table, batch, hand)
+    match deliver(acts, &shared.claims, &mut own.seat, table, batch, hand) {
+        Ok(listener) => listener,
+        Err(_) => batch.contains(&LISTENER),
+    }
 }
 
 /// If a client waits for a slot, the poller is full from now on, until accept(2) answers that nobody waits. If all

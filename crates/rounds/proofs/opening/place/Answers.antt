@@ -41,7 +41,7 @@ returns-in-NotFree g c =
         acts = record { exchanges = exchange.NotFree ∷ []; once = refl; acts = found };
         did = rw c.count_lost.ensures (none_opened (try ∷ []) (c.args.ticket.slot ∷ []) (c.args.ticket.slot ∷ []) (try_held c.args.ticket) (acts_one try _ _ change)
             (c.args.poller.now.table, record { own = c.requires.next.own; next = c.requires.next.generation; entered = refl }, refl) refl refl refl
-            (counted_one _ c.args.poller.now.lost _ refl) (inr ([], refl, refl)) refl refl refl refl
+            (counted_one _ c.args.poller.now.lost _ refl) (inr ([], refl, refl)) refl refl refl refl (omega arith)
             (λ s. omega (arith, times-append s (c.args.ticket.slot ∷ []) c.args.own.now.hand.slots)));
         room = omega arith;
       });

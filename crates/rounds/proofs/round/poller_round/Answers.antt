@@ -1,5 +1,5 @@
 use Rattle.std.proofs.Common.{◌≡◌, refl, length, inl, inr, arith}
-use Rattle.rounds.proofs.{Rounds.{accept_and_took, between_still, room_same, took_none, answered, lasts, begun_not_early, ended_still, flag_ended, flag_up, kept, listens_still, unless, round_ended, round_of}, Acts.{filter_le, room_left, few_sweep, flag_down, flag_raised}}
+use Rattle.rounds.proofs.{Rounds.{accept_and_took, between_still, room_same, took_none, answered, lasts, begun_not_early, ended_still, flag_ended, flag_up, kept, listens_still, unless, round_ended, round_of, waits_still}, Acts.{filter_le, room_left, few_sweep, flag_down, flag_raised}}
 use Rattle.rounds.specs.Acts.{reported}
 use Rattle.rounds.proofs.round.poller_round.Goals as goal
 
@@ -72,24 +72,27 @@ returns g c =
     record {
       between = between_still accepted.between back.took.seat (rw (end, told));
       early = begun_not_early _ _ (c.has_room.ensures.room c.if-not-has_room.false);
-      waits = inr (rw last looked.waits);
+      waits = inr (rw last (waits_still _ c.args.poller.now c.look.new.poller c.args.own.now c.look.new.own c.take_back.new.own looked.waits
+          (omega (arith, rw (timed.posts.queues.free, delivered.posts.queues.free) at accepted.done.did.grew, back.took.grew))));
       made = round_of {r = c.raise_accept_flag.new.self} looked.poller looked.took delivered.posts (rw raised) timed.posts timed.poller (accept_and_took accepted.done back.took)
           (λ is. rw (back.took.seat, accepted.still is) is) (rw (end, told));
-      ended = inr (inr (record {
-        answer = answer.0;
-        read = rw last looked.batch;
-        second = rw (end, told, accepted.done.did.poller) timed.told;
-        swept = rw (end, told, accepted.done.did.poller) swept;
-        accepted = ended_still (rw told accepted.ended) back.left;
-        raised = λ up. flag_up c.args.poller.now c.look.new.poller c.raise_accept_flag.new.self c.keep_time.new.poller c.take_back.new.poller looked.poller
-            (λ up. flag_raised _ _ delivered.listener (rw raised at up)) (rw timed.poller) (rw last) (accepted.answered.raised (rw (end, told) at up));
-        flag = λ down. flag_ended c.args.poller.now c.look.new.poller c.raise_accept_flag.new.self c.keep_time.new.poller c.take_back.new.poller looked.poller
-            (λ down. flag_down _ _ delivered.listener (rw raised at down)) (rw timed.poller) (rw last) (accepted.answered.flag (rw (end, told) at down));
-        starved = λ starved. rw (timed.poller, raised, looked.poller) at (accepted.answered.starved (rw (end, told) at starved));
-        closed = back.closed;
-        back = back.all;
-        drops = rw end c.log_counted.ensures.all;
-      }));
+      ended = inr (inr (
+        answer.0,
+        record {
+          read = rw last looked.batch;
+          second = rw (end, told, accepted.done.did.poller) timed.told;
+          swept = rw (end, told, accepted.done.did.poller) swept;
+          accepted = ended_still (rw told accepted.ended) back.left;
+          raised = λ up. flag_up c.args.poller.now c.look.new.poller c.raise_accept_flag.new.self c.keep_time.new.poller c.take_back.new.poller looked.poller
+              (λ up. flag_raised _ _ delivered.listener (rw raised at up)) (rw timed.poller) (rw last) (accepted.answered.raised (rw (end, told) at up));
+          flag = λ down. flag_ended c.args.poller.now c.look.new.poller c.raise_accept_flag.new.self c.keep_time.new.poller c.take_back.new.poller looked.poller
+              (λ down. flag_down _ _ delivered.listener (rw raised at down)) (rw timed.poller) (rw last) (accepted.answered.flag (rw (end, told) at down));
+          starved = λ starved. rw (timed.poller, raised, looked.poller) at (accepted.answered.starved (rw (end, told) at starved));
+          closed = back.closed;
+          back = back.all;
+          drops = rw end c.log_counted.ensures.all;
+        },
+      ));
       keeps = record {
         opening = rw (last, looked.poller);
         most = rw (last, looked.poller);

@@ -1,6 +1,6 @@
 use Rattle.std.proofs.Common.{take}
 use Rattle.rounds.specs.Acts.{Delivered, PostsMade, all_reported}
-use Rattle.rounds.proofs.delivering.deliver_by.Given as goal
+use Rattle.rounds.proofs.delivering.deliver.Given as goal
 
 -- the reports so far are delivered
 abbrev pub invariant-loop-number : goal.invariant-loop-number

@@ -1,7 +1,7 @@
 use Rattle.std.proofs.{Common.{take, arith}, lemmas.List.{length-take, take_more, Elements.filter_map-append}}
 use Rattle.rounds.specs.Acts.{reported}
 use Rattle.rounds.proofs.Acts.{room_left, in_order, posted_both, holds_nothing_still, filter_le}
-use Rattle.rounds.proofs.delivering.deliver_by.Goals as goal
+use Rattle.rounds.proofs.delivering.deliver.Goals as goal
 
 pub post_note-requires-clause-room : goal.post_note-requires-clause-room
 post_note-requires-clause-room g c =
@@ -21,3 +21,6 @@ post_note-requires-clause-idle g c = holds_nothing_still c.loop-number.invariant
 
 pub returns-clause-idle : goal.returns-clause-idle
 returns-clause-idle g c = holds_nothing_still c.loop-number.invariant.delivered c.requires.idle
+
+pub returns-in_err-refuse_worn-clause-idle : goal.returns-in_err-refuse_worn-clause-idle
+returns-in_err-refuse_worn-clause-idle g c = holds_nothing_still c.loop-number.invariant.delivered c.requires.idle
