@@ -326,7 +326,8 @@ fn log_reached<F: Front, R: Log>(
 
 /// The relay's own address towards a target. The system is asked only if the log has all clients.
 fn find_via<W: Settle>(rt: &impl Log, clients: ClientsAt, target: &W) -> Option<SocketAddr>
-    ensures { clients ≡ ClientsAt.Debug → result ≡ None }
+    ensures none { clients ≡ ClientsAt.Debug → result ≡ None }
+    ensures own { IfSome result (λ via. W.is_at target.now via) }
 {
     match clients {
         ClientsAt::Info if logs_gone(rt, clients) => target.local(),
