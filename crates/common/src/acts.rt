@@ -126,6 +126,9 @@ pub trait Moves<F: Front>: Acts {
     // The last act registered the sockets of this connection, each under the name of its end.
     ghost named: { Ticket → Self → Type 0 };
 
+    // The last act registered the first client's socket, which it made the second, and that of this target.
+    ghost registered: { F.Client → F.Client → F.Target → Self → Type 0 };
+
     // The last act took this connection out of its place, or found none there.
     ghost found: { Option (Berth F.Client F.Target) → Self → Type 0 };
 
@@ -151,6 +154,7 @@ pub trait Moves<F: Front>: Acts {
         requires target { target_token ≡ record client_token { side = side.Target } }
         ensures made { OnOk result (Self.made act.Register client_token.slot self.old self.new) }
         ensures named { OnOk result (named (record { slot = client_token.slot; generation = client_token.generation }) self.new) }
+        ensures registered { IfOk result (λ opened. registered client.old client.new opened.target self.new) }
         ensures none { OnErr result (self.new ≡ self.old) }
         ensures dialled { IfOk result (λ opened. F.dialled (F.seen front.old).target opened.target) }
         ensures told { IfOk result (λ opened. F.may_tell client.old opened.route) }
@@ -294,6 +298,8 @@ impl<F: Front> Moves<F> for () {
     ghost use Rattle.claims.specs.Seats.{Holds};
 
     ghost named = { λ _ _. Unit {0} };
+
+    ghost registered = { λ _ _ _ _. Unit {0} };
 
     ghost moved = { λ _ _. Unit {0} };
 

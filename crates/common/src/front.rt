@@ -1,4 +1,4 @@
-ghost use Rattle.std.specs.{Prelude.{◌≡◌, ◌≢◌, ◌≤◌, ℕ, true, false, [], IfOk, IfErr, OnErr, vec_len, vec_capacity}, IoError.error_kind, declared.io.ErrorKind.TheVariants.Interrupted};
+ghost use Rattle.std.specs.{Prelude.{◌≡◌, ◌≢◌, ◌≤◌, ℕ, true, false, [], IfOk, IfErr, IfSome, OnErr, vec_len, vec_capacity}, IoError.error_kind, declared.io.ErrorKind.TheVariants.Interrupted};
 ghost use Rattle.common.specs.Told.{millis_of, unaccepted_of, Waited};
 
 use engine::Wire;
@@ -10,8 +10,13 @@ use token::Token;
 
 /// A wire that may hold bytes back.
 pub trait Settle: Wire {
-    // Whether the wire holds nothing back. The default promises nothing.
+    ghost use Rattle.std.specs.declared.net.SocketAddr.{SocketAddr};
+
+    // Whether the wire holds nothing back. This default and the next promise nothing.
     ghost settled: { Self → Type 0 } = { λ _. Unit {0} };
+
+    // That the system said that the socket has this address of its own.
+    ghost is_at: { Self → SocketAddr → Type 0 } = { λ _ _. Unit {0} };
 
     /// Sends now what was held back. It is called after a quiet turn: no call is worth trying before the next report.
     fn settle(&mut self)
@@ -29,7 +34,9 @@ pub trait Settle: Wire {
     }
 
     /// The socket's own address (getsockname(2)), if it is known. Only the log uses it.
-    fn local(&self) -> Option<SocketAddr> {
+    fn local(&self) -> Option<SocketAddr>
+        ensures { IfSome result (λ address. is_at self.now address) }
+    {
         None
     }
 }

@@ -185,6 +185,8 @@ impl<W: Wire + Drop, S: Sink> Wire for RecordedWire<W, S> {
 impl<W: Settle + Drop, S: Sink> Settle for RecordedWire<W, S> {
     ghost settled = { λ w. W.settled w.inner };
 
+    ghost is_at = { λ w address. W.is_at w.inner address };
+
     /// Both wires of a connection settle, the target's last. Only the target's is recorded.
     fn settle(&mut self)
         ensures same { W.told self.new.inner ≡ W.told self.old.inner }

@@ -145,13 +145,14 @@ accept_none {a = a} none same = accept_took none same (took_none a)
 pub done_of : {acted : List SeatAct → Type 0} {p q : PollerState} {a b : Own} → OneAccepted acted p q a b → AcceptDone acted p q a b
 done_of once = record { tries = once.tries; acts = once.acts; did = once.did }
 
-module _ {C S T : Type 0} {moved : Berth C T → S → Type 0} {named : Ticket → S → Type 0} {made : Made S} {may_tell : C → Route → Type 0} {p : PollerState} where
+module _ {C S T : Type 0} {moved : Berth C T → S → Type 0} {named : Ticket → S → Type 0} {registered : C → C → T → S → Type 0} {made : Made S}
+    {accepted : C → Type 0} {may_tell : C → Route → Type 0} {p : PollerState} where
   -- no try was made
-  pub no_tries : {s : S} → TriesMade moved named made may_tell p s s []
+  pub no_tries : {s : S} → TriesMade moved named registered made accepted may_tell p s s []
   no_tries = record { acts = refl }
 
-  pub accept_both : {s t u : S} {q r : PollerState} {a b c : Own} → AcceptDone (TriesMade moved named made may_tell p s t) p q a b
-      → OneAccepted (TriesMade moved named made may_tell q t u) q r b c → AcceptDone (TriesMade moved named made may_tell p s u) p r a c
+  pub accept_both : {s t u : S} {q r : PollerState} {a b c : Own} → AcceptDone (TriesMade moved named registered made accepted may_tell p s t) p q a b
+      → OneAccepted (TriesMade moved named registered made accepted may_tell q t u) q r b c → AcceptDone (TriesMade moved named registered made accepted may_tell p s u) p r a c
   accept_both one two = record {
     tries = one.tries ++ two.tries;
     acts = record { acts = in_order _ _ _ _ _ _ one.acts.acts (rw one.did.poller at two.acts.acts) };
@@ -159,14 +160,14 @@ module _ {C S T : Type 0} {moved : Berth C T → S → Type 0} {named : Ticket �
   }
 
   -- one try, after a change that opens nothing
-  pub once_after : {s t : S} {q r : PollerState} {a b : Own} → OneAccepted (TriesMade moved named made may_tell q s t) q r a b → SamePoller p q
-      → OneAccepted (TriesMade moved named made may_tell p s t) p r a b
+  pub once_after : {s t : S} {q r : PollerState} {a b : Own} → OneAccepted (TriesMade moved named registered made accepted may_tell q s t) q r a b → SamePoller p q
+      → OneAccepted (TriesMade moved named registered made accepted may_tell p s t) p r a b
   once_after once same = record { tries = once.tries; acts = record { acts = rw same.poller at once.acts.acts }; did = connected_both (took_only same (took_none _)) once.did; room = once.room }
 
 -- slots were taken for the next try
-pub accept_and_took : {C S T : Type 0} {moved : Berth C T → S → Type 0} {named : Ticket → S → Type 0} {made : Made S} {may_tell : C → Route → Type 0}
-    {s t : S} {p q : PollerState} {a b c : Own} → AcceptDone (TriesMade moved named made may_tell p s t) p q a b → OnlyTook b c
-    → AcceptDone (TriesMade moved named made may_tell p s t) p q a c
+pub accept_and_took : {C S T : Type 0} {moved : Berth C T → S → Type 0} {named : Ticket → S → Type 0} {registered : C → C → T → S → Type 0} {made : Made S}
+    {accepted : C → Type 0} {may_tell : C → Route → Type 0} {s t : S} {p q : PollerState} {a b c : Own} → AcceptDone (TriesMade moved named registered made accepted may_tell p s t) p q a b
+    → OnlyTook b c → AcceptDone (TriesMade moved named registered made accepted may_tell p s t) p q a c
 accept_and_took done took = accept_both done (accept_took no_tries (assumption) took)
 
 put_back : (xs : List ℕ) (x : ℕ) → slice_get xs 0 ≡ Some x → x ∷ drop 1 xs ≡ xs
@@ -209,12 +210,12 @@ module _ {p q : PollerState} {a : Own} {hand : HandState} {slot : ℕ} (taken : 
   placed_there (inr once) joined = inr (record { tries = once.tries; acts = joined once.tries once.acts; did = rw (taken, put_back a.hand.slots slot is) at once.did; room = rw taken at once.room })
 
 -- the acts of the one try for a connection, with those before its slot was adopted
-pub tried_once : {S : Type 0} (made : Ticket → Made S) {opens placed finds : Ticket → S → S → Type 0} (t : Ticket) (a b c : S)
-    → (placed t b c → opens t a c) → (finds t b c → AreMade (made t) t.slot (Register ∷ Adopt ∷ []) a c)
-    → {tries : List SeatAct} (tried : TriedOnce placed finds t b c tries) → TryMade made opens (record { ticket = t; exchanges = tried.exchanges }) a c
-tried_once {S} made {opens} {placed} {finds} t a b c opened found tried = record { acts = by tried.exchanges tried.acts } where
+pub tried_once : {C S : Type 0} {accepted : C → Type 0} (made : C → Ticket → Made S) {opens : C → Ticket → S → S → Type 0} {placed finds : Ticket → S → S → Type 0}
+    {client : C} (t : Ticket) (a b c : S) → accepted client → (placed t b c → opens client t a c) → (finds t b c → AreMade (made client t) t.slot (Register ∷ Adopt ∷ []) a c)
+    → {tries : List SeatAct} (tried : TriedOnce placed finds t b c tries) → TryMade accepted made opens (record { ticket = t; exchanges = tried.exchanges }) a c
+tried_once {C} {S} made {opens} {placed} {finds} {client} t a b c given opened found tried = record { client = client; given = given; acts = by tried.exchanges tried.acts } where
   by : (es : List Exchange) → ActsOf placed finds (λ t from to. ⊥) t es b c
-      → ActsOf opens (λ t. AreMade (made t) t.slot (Register ∷ Adopt ∷ [])) (DropMade made) t es a c
+      → ActsOf (opens client) (λ t. AreMade (made client t) t.slot (Register ∷ Adopt ∷ [])) (DropMade (made client)) t es a c
   by [] none = absurd none
   by (WasNotFree ∷ rest) acts = found acts
   by _ acts = opened acts
@@ -348,12 +349,13 @@ none_posted : {S : Type 0} {made : Made S} {part : Part} {tickets : List Ticket}
 none_posted {a = a} none = rw none (record { made = refl; posted = posted_none a.seat a.hand; own = λ slot out. refl; queues = assumption })
 
 -- A round: the reports were delivered, a sweep was made or none, and connections were opened
-module _ {C S T : Type 0} {moved : Berth C T → S → Type 0} {named : Ticket → S → Type 0} {made : Made S} {may_tell : C → Route → Type 0} where
+module _ {C S T : Type 0} {moved : Berth C T → S → Type 0} {named : Ticket → S → Type 0} {registered : C → C → T → S → Type 0} {made : Made S}
+    {accepted : C → Type 0} {may_tell : C → Route → Type 0} where
   pub round_of : {from delivered_at timed_at to : S} {p q r v w t : PollerState} {a b c d e : Own} → Looked p q → OnlyTook a b
       → AllPosted made q.part (all_reported q.table q.batch) b c from delivered_at → r ≡ record q { accepting = r.accepting }
       → AllPosted made r.part (sweep_of r v) c d delivered_at timed_at → v ≡ record r { second = v.second; swept = v.swept }
-      → AcceptDone (TriesMade moved named made may_tell v timed_at to) v w d e → (IsWorn d.seat → IsWorn e.seat)
-      → t ≡ record w { seen = t.seen; over = t.over; episodes = t.episodes } → RoundInOrder moved named made may_tell p t a e from to
+      → AcceptDone (TriesMade moved named registered made accepted may_tell v timed_at to) v w d e → (IsWorn d.seat → IsWorn e.seat)
+      → t ≡ record w { seen = t.seen; over = t.over; episodes = t.episodes } → RoundInOrder moved named registered made accepted may_tell p t a e from to
   round_of {delivered_at = delivered_at} {timed_at = timed_at} {c = c} {e = e} looked took reports flag sweeps sweep accepted still_then end =
       let done = accepted.did in
       let still_all : IsWorn c.seat → IsWorn e.seat = λ is. still_then (rw (sweeps.posted.still is).0 is) in
@@ -393,7 +395,7 @@ module _ {C S T : Type 0} {moved : Berth C T → S → Type 0} {named : Ticket �
       })
 
   -- nothing was reported, nothing was posted for time, and nothing was accepted
-  pub round_ended : {s : S} {p q : PollerState} {a b : Own} → Looked p q → q.batch ≡ [] → OnlyTook a b → RoundInOrder moved named made may_tell p q a b s s
+  pub round_ended : {s : S} {p q : PollerState} {a b : Own} → Looked p q → q.batch ≡ [] → OnlyTook a b → RoundInOrder moved named registered made accepted may_tell p q a b s s
   round_ended {q = q} looked none took = round_of {r = q} {v = q} {w = q} {t = q} looked took (none_posted (rw none)) refl (none_posted (no_sweep q q.swept refl)) refl
       (done_of (accept_none no_tries assumption)) (λ is. is) refl
 

@@ -198,16 +198,23 @@ Putting moved made berth act slot from to = made act slot from to
 abbrev pub of_end : EndName → Ticket
 of_end end = record { slot = end.slot; generation = end.generation }
 
--- what is known of a connection's acts, of which Register registered its sockets under the names of its ends
-abbrev pub Naming : {S : Type 0} → (Ticket → S → Type 0) → act.Made S → Ticket → act.Made S
-Naming named made ticket act.Register slot from to = made act.Register slot from to × named ticket to
-Naming named made ticket act slot from to = made act slot from to
+-- what is known of a connection's acts, of which Register registered its sockets under the names of its ends, and left these wires
+abbrev pub Naming : {S : Type 0} → (Ticket → S → Type 0) → (S → Type 0) → act.Made S → Ticket → act.Made S
+Naming named wires made ticket act.Register slot from to = made act.Register slot from to × (named ticket to × wires to)
+Naming named wires made ticket act slot from to = made act slot from to
 
--- the acts of an opening, which put a fresh connection into its place
-abbrev pub OpensFresh : {S C T : Type 0} → (Berth C T → S → Type 0) → (Ticket → act.Made S) → (Route → Type 0) → PollerState → Ticket
-    → S → S → Type 0
-OpensFresh moved made may_tell p ticket from to = (berth : Berth _ _) × IsFresh may_tell p.opening p.second ticket berth
-    × act.AreMade (Putting moved (made ticket) berth) ticket.slot act.open_slot from to
+-- the sockets of a connection were registered, which left these two wires
+abbrev pub Wires : {S C T : Type 0} → (C → T → S → Type 0) → S → Type 0
+Wires {C = C} {T = T} registered to = (client : C) × (target : T) × registered client target to
+
+-- The acts of an opening of this client, which put a fresh connection into its place. Its wires are those that Register left, of
+-- this very client and of the target that it opened
+abbrev pub OpensFresh : {S C T : Type 0} → (Berth C T → S → Type 0) → (Ticket → S → Type 0) → (C → C → T → S → Type 0) → act.Made S
+    → (C → Route → Type 0) → PollerState → C → Ticket → S → S → Type 0
+OpensFresh moved named registered made may_tell p client ticket from to =
+    (berth : Berth _ _) × IsFresh (may_tell client) p.opening p.second ticket berth
+    × act.AreMade (Putting moved (Naming named (registered client berth.client berth.target) made ticket) berth) ticket.slot
+    act.open_slot from to
 
 -- the acts of a try with these exchanges: it opened its connection, or found its slot not to be free, or dropped it
 abbrev pub ActsOf : {S : Type 0} → (opens finds drops : Ticket → S → S → Type 0) → Ticket → List Exchange → S → S → Type 0
@@ -224,16 +231,20 @@ abbrev pub Registered : {S T E : Type 0} → (Ticket → act.Made S) → Ticket 
 Registered made ticket (Ok opened) from to = made ticket act.Register ticket.slot from to
 Registered made ticket (Err cause) from to = DropMade made ticket from to
 
--- the acts of a try, and no others
-pub record TryMade {S : Type 0} (made : Ticket → act.Made S) (opens : Ticket → S → S → Type 0) (try : SeatAct) (from to : S) : Type 0 where
-  pub acts : ActsOf opens (λ t. act.AreMade (made t) t.slot (act.Register ∷ act.Adopt ∷ [])) (DropMade made)
+-- the acts of a try, and no others, for a client that accept(2) gave
+pub record TryMade {C S : Type 0} (accepted : C → Type 0) (made : C → Ticket → act.Made S) (opens : C → Ticket → S → S → Type 0)
+    (try : SeatAct) (from to : S) : Type 0 where
+  pub client : C
+  pub given : accepted client
+  pub acts : ActsOf (opens client) (λ t. act.AreMade (made client t) t.slot (act.Register ∷ act.Adopt ∷ [])) (DropMade (made client))
       try.ticket try.exchanges from to
 
--- the acts of a poller's tries, in order, and no others: an opening was made for some client
-pub record TriesMade {C S T : Type 0} (moved : Berth C T → S → Type 0) (named : Ticket → S → Type 0) (made : act.Made S)
-    (may_tell : C → Route → Type 0) (p : PollerState) (from to : S) (tries : List SeatAct) : Type 0 where
-  pub acts : InOrder (TryMade (Naming named made) (λ t from to.
-      (client : C) × OpensFresh moved (Naming named made) (may_tell client) p t from to)) tries from to
+-- the acts of a poller's tries, in order, and no others: each was made for a client as accept(2) gave it
+pub record TriesMade {C S T : Type 0} (moved : Berth C T → S → Type 0) (named : Ticket → S → Type 0)
+    (registered : C → C → T → S → Type 0) (made : act.Made S) (accepted : C → Type 0) (may_tell : C → Route → Type 0)
+    (p : PollerState) (from to : S) (tries : List SeatAct) : Type 0 where
+  pub acts : InOrder (TryMade accepted (λ client. Naming named (Wires (registered client)) made)
+      (OpensFresh moved named registered made may_tell p)) tries from to
 
 -- Why an accepted connection is closed unopened: the front refused to open it; or the front opened it, but an address
 -- for the line is missing, or memory ran out

@@ -43,14 +43,15 @@ pub record RoundDone (old new : PollerState) (had has : Own) : Type 0 where
 
 -- A round with its acts, in order, and no others: for each report of a connection a post at its slot, also by a worn seat;
 -- then such a post for each connection of the sweep; and then the acts of its tries
-pub record RoundInOrder {C S T : Type 0} (moved : Berth C T → S → Type 0) (named : Ticket → S → Type 0) (made : Made S)
-    (may_tell : C → Route → Type 0) (old new : PollerState) (had has : Own) (from to : S) : Type 0 where
+pub record RoundInOrder {C S T : Type 0} (moved : Berth C T → S → Type 0) (named : Ticket → S → Type 0)
+    (registered : C → C → T → S → Type 0) (made : Made S) (accepted : C → Type 0) (may_tell : C → Route → Type 0)
+    (old new : PollerState) (had has : Own) (from to : S) : Type 0 where
   pub round : RoundDone old new had has
   pub delivered : S
   pub timed : S
   pub reports : PostsMade made (all_reported old.table new.batch) from delivered
   pub sweep : PostsMade made (sweep_of old new) delivered timed
-  pub tries : TriesMade moved named made may_tell new timed to round.tries
+  pub tries : TriesMade moved named registered made accepted may_tell new timed to round.tries
 
 -- For these connections, all of a poller's own slots, a note was posted, and an act made. The queues are as they were
 pub record AllPosted {S : Type 0} (acts : Made S) (part : Part) (tickets : List Ticket) (had has : Own) (from to : S) : Type 0 where

@@ -19,7 +19,8 @@
 //!   poller becomes full if the listener was reported, it may open more, and no slot was free before it accepted
 //!   anybody (`log_if_full`: `full`, `found`). It stays full until accept(2) answers that nobody waits.
 //! - Both tokens of a connection have the next generation of its slot (`next_names`). What is put into its place is a
-//!   fresh connection (`open`: `counted`, by `OpensFresh`): its lead is the PROXY line of the addresses that the front
+//!   fresh connection (`open`: `counted`, by `OpensFresh`): its wires are those that registering the accepted client
+//!   left (`wires`), so that nothing is read in an opening. Its lead is the PROXY line of the addresses that the front
 //!   gave, or nothing (`LeadGiven`). `DropsFor` says which cause is logged if there is none (`cause`).
 //! - An accepted connection counts once (`Uncounted`): as opened, as dropped, or its slot as lost (`open`: `counted`,
 //!   by `Fate`). An opening passes its line to the log. Openings and drops are counted at their slots (`OpeningLogged`,

@@ -2,7 +2,7 @@
 ghost use Rattle.std.specs.Prelude.{◌≡◌, ◌+◌, ◌<◌, ◌≤◌, [], ◌∷◌, ◌++◌, drop, length, Ok, Err, Some, None, ◌⊎◌, IfOk, IfErr, MatchResult, OnOk, OnErr, OnSome, IfSome, IsNone, ℕ, slice_get, slice_index};
 ghost use Rattle.claims.specs.Seats.{Adds, HoldsNothing, OnlyAt};
 ghost use Rattle.relay_core.specs.{Pairs.fresh, Proxy.proxy_line};
-ghost use Rattle.rounds.specs.{Openings.{lacks, lead_of, next_in, Between, DropCounted, DropLogged, DropsFor, Fate, IsFresh, IsNext, IsOpened, IsSpent, LeadGiven, Naming, OneAccepted, OpeningLogged, OpensFresh, Putting, Registered, SameQueues, Started, TriedOnce, TriesMade, of_end, with_slot}, Pollers.{counted_up, AreGenerations}};
+ghost use Rattle.rounds.specs.{Openings.{lacks, lead_of, next_in, Between, DropCounted, DropLogged, DropsFor, Fate, IsFresh, IsNext, IsOpened, IsSpent, LeadGiven, Naming, OneAccepted, OpeningLogged, OpensFresh, Putting, Registered, SameQueues, Started, TriedOnce, TriesMade, Wires, of_end, with_slot}, Pollers.{counted_up, AreGenerations}};
 ghost use Rattle.common.specs.{Acts.{AreMade, placing}, Posts.{HoldsOnly, IsWorn}, Hands.ticket_room};
 ghost use Rattle.token.specs.Names.{last_generation};
 ghost use Rattle.common.specs.Acts as act;
@@ -76,15 +76,16 @@ pub fn open<F: Front + Counting, A: Moves<F>, R: Wait + Logs>(
     requires between { Between shared.now.claims own.old poller.old }
     requires room { 1 ≤ ticket_room own.old.hand }
     requires slot { 1 ≤ length own.old.hand.slots }
+    requires accepted { F.accepted client }
     ensures between { Between shared.now.claims own.new poller.new }
     ensures counted { IfSome (slice_get own.old.hand.slots 0) (λ slot. Fate slot
         (OpeningLogged (R.logged rt.now) F.counted (next_in poller.old slot)
-        × OpensFresh A.moved (Naming A.named A.made) (F.may_tell client) poller.old (next_in poller.old slot) acts.old acts.new)
+        × OpensFresh A.moved A.named A.registered A.made F.may_tell poller.old client (next_in poller.old slot) acts.old acts.new)
         (DropCounted F.counted F.lacked slot)
-        (λ made. AreMade (Naming A.named A.made (next_in poller.old slot)) slot made acts.old acts.new)
+        (λ made. AreMade (Naming A.named (Wires (A.registered client)) A.made (next_in poller.old slot)) slot made acts.old acts.new)
         poller.old poller.new own.old.seat own.new.seat) }
     ensures done { IsWorn own.old.seat
-        ⊎ OneAccepted (TriesMade A.moved A.named A.made F.may_tell poller.old acts.old acts.new)
+        ⊎ OneAccepted (TriesMade A.moved A.named A.registered A.made F.accepted F.may_tell poller.old acts.old acts.new)
         poller.old poller.new own.old own.new }
     ensures ready { own.new.ready ≡ own.old.ready }
 {
@@ -131,7 +132,8 @@ fn prepare<F: Front, A: Moves<F>, N: Log>(
     names: Names,
 ) -> Result<Box<Berth<F::Client, F::Target>>, Dropped>
     requires { length hand.old.slots < hand.old.capacity }
-    ensures acts { Registered (Naming A.named A.made) (of_end names.client) result acts.old acts.new }
+    ensures acts { Registered (Naming A.named (Wires (A.registered client)) A.made) (of_end names.client) result acts.old acts.new }
+    ensures wires { IfOk result (λ berth. A.registered client berth.value.client berth.value.target acts.new) }
     ensures fresh { IfOk result (λ berth. IsFresh (F.may_tell client) poller.old.opening poller.old.second
         (of_end names.client) berth.value) }
     ensures dialled { IfOk result (λ berth. F.dialled poller.old.seen.target berth.value.target) }
@@ -164,6 +166,7 @@ fn berth_of<C: Drop, T: Drop>(
     client: C,
 ) -> Result<Box<Berth<C, T>>, Cause>
     ensures berth { IfOk result (λ berth. (reached ≡ Ok (berth.value.pair, berth.value.target)) × (berth.value.second ≡ second)) }
+    ensures client { IfOk result (λ berth. berth.value.client ≡ client) }
     ensures refused { IfErr result (λ cause. MatchResult reached (λ _. cause ≡ Cause.Memory) (λ why. cause ≡ why)) }
 {
     let (pair, target) = reached?;
@@ -211,7 +214,8 @@ fn reach<F: Front, A: Moves<F>, N: Log>(
     names: Names,
 ) -> Result<(Pair, F::Target), Cause>
     requires ring { (1 ≤ opening.ring) × (opening.ring ≤ 65536) }
-    ensures acts { Registered (Naming A.named A.made) (of_end names.client) result acts.old acts.new }
+    ensures acts { Registered (Naming A.named (Wires (A.registered client.old)) A.made) (of_end names.client) result acts.old acts.new }
+    ensures wires { IfOk result (λ made. A.registered client.old client.new made.1 acts.new) }
     ensures pair { IfOk result (λ made. made.0 ≡ fresh names.client.slot names.client.generation opening.ring second made.0.up.lead) }
     ensures lead { IfOk result (λ made. LeadGiven (F.may_tell client.old) opening.proxy (Some made.0.up.lead)) }
     ensures dialled { IfOk result (λ made. F.dialled (F.seen front.old).target made.1) }
@@ -322,7 +326,8 @@ fn log_reached<F: Front, R: Log>(
 
 /// The relay's own address towards a target. The system is asked only if the log has all clients.
 fn find_via<W: Settle>(rt: &impl Log, clients: ClientsAt, target: &W) -> Option<SocketAddr>
-    ensures { clients ≡ ClientsAt.Debug → result ≡ None }
+    ensures none { clients ≡ ClientsAt.Debug → result ≡ None }
+    ensures own { IfSome result (λ via. W.is_at target.now via) }
 {
     match clients {
         ClientsAt::Info if logs_gone(rt, clients) => target.local(),

@@ -209,6 +209,7 @@ impl<F: Front> Poller<F> {
 
     pub(crate) fn accept(&mut self) -> io::Result<(F::Client, Uncounted)>
         ensures accepted { OnOk result (self.new ≡ record self.old { tries = self.old.tries - 1; starved = false }) }
+        ensures client { IfOk result (λ given. F.accepted given.0) }
         ensures refused { OnErr result (self.new ≡ record self.old { tries = self.old.tries - 1 }) }
         ensures none { IfErr result (λ error. F.gave_none (unaccepted_of (error_kind error))) }
     {

@@ -59,7 +59,8 @@ pub fn poller_round<F: Front, A: Moves<F>, C: Clock, R: Wait + Log>(
     ensures between { Between shared.now.claims own.new poller.new }
     ensures early { EndedEarly shared.now.claims.words own.old → IsOk result × NotBegun poller.old poller.new own.old own.new }
     ensures waits { EndedEarly shared.now.claims.words own.old ⊎ WaitedAsMay timing.now.limit poller.old poller.new own.old own.new }
-    ensures made { RoundInOrder A.moved A.named A.made F.may_tell poller.old poller.new own.old own.new acts.old acts.new }
+    ensures made { RoundInOrder A.moved A.named A.registered A.made F.accepted F.may_tell poller.old poller.new
+        own.old own.new acts.old acts.new }
     ensures none { EndedEarly shared.now.claims.words own.old ⊎ (result ≡ Err ServerFault.Poll) → acts.new ≡ acts.old }
     ensures ended { EndedEarly shared.now.claims.words own.old ⊎ ((result ≡ Err ServerFault.Poll)
         ⊎ (((result ≡ Err ServerFault.Worn) ↔ IsWorn own.new.seat)
@@ -251,7 +252,7 @@ fn accept<F: Front, A: Moves<F>, R: Wait + Log>(
     requires between { Between shared.now.claims own.old poller.old }
     requires room { max_accepts ≤ ticket_room own.old.hand }
     ensures between { Between shared.now.claims own.new poller.new }
-    ensures done { AcceptDone (TriesMade A.moved A.named A.made F.may_tell poller.old acts.old acts.new)
+    ensures done { AcceptDone (TriesMade A.moved A.named A.registered A.made F.accepted F.may_tell poller.old acts.old acts.new)
         poller.old poller.new own.old own.new }
     ensures ended { AcceptEnded poller.new own.new }
     ensures answered { OnlyAnswered F.gave_none poller.old poller.new }
@@ -302,7 +303,7 @@ fn accept_next<F: Front, A: Moves<F>, R: Wait + Log>(
     requires room { 1 ≤ ticket_room own.old.hand }
     requires may { MayAccept poller.old own.old }
     ensures between { Between shared.now.claims own.new poller.new }
-    ensures done { OneAccepted (TriesMade A.moved A.named A.made F.may_tell poller.old acts.old acts.new)
+    ensures done { OneAccepted (TriesMade A.moved A.named A.registered A.made F.accepted F.may_tell poller.old acts.old acts.new)
         poller.old poller.new own.old own.new }
     ensures still { IsWorn own.old.seat → own.new.seat ≡ own.old.seat }
     ensures tries { result ≡ true → poller.new.tries ≡ poller.old.tries - 1 }

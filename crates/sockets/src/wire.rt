@@ -343,6 +343,8 @@ impl<S: Stream> Wire for SocketWire<S> {
 }
 
 impl<S: Stream> Settle for SocketWire<S> {
+    ghost is_at = { λ wire address. HasAddress S.did wire.stream (Some address) };
+
     fn settle(&mut self)
         ensures told { (self.new.socket.tally.faults ≡ self.old.socket.tally.faults)
             × (self.new.socket.tally.blocks ≡ self.old.socket.tally.blocks) }

@@ -1,5 +1,5 @@
 use Rattle.std.proofs.Common.{◌∙◌, inr, refl}
-use Rattle.rounds.{specs.Openings.{Dropped, Naming, Spent}, proofs.Rounds.{between_still, fate_by, no_tries, opened_never, opened_not, placed_there, tried_once}}
+use Rattle.rounds.{specs.Openings.{Dropped, Naming, Spent, Wires}, proofs.Rounds.{between_still, fate_by, no_tries, opened_never, opened_not, placed_there, tried_once}}
 use Rattle.rounds.proofs.opening.open.Goals as goal
 
 pub returns-in_default : goal.returns-in_default
@@ -21,7 +21,7 @@ returns-in-Err g c =
     record {
       between = between_still c.requires.between refl (rw logged);
       counted = rw (first, logged) (Dropped c.in-Err.dropped refl (rw c.ticket-ticket.ensures at c.count_dropped.ensures, c.in-Err.ensures.lacked) acts);
-      done = inr (opened_not c.next_names.ensures.left first (record { acts = (c.prepare.new.acts, record { acts = acts }, refl) })
+      done = inr (opened_not c.next_names.ensures.left first (record { acts = (c.prepare.new.acts, record { client = c.args.client; given = c.requires.accepted; acts = acts }, refl) })
           c.in-Err.ensures.failed (rw logged assumption) c.in-Some.ensures.next.own);
       ready = refl;
     }
@@ -31,17 +31,18 @@ returns-in-Ok g c =
     let first = c.in-Some.ensures.first in
     let next = c.in-Some.ensures.next.generation in
     let made = c.in-Ok.ensures in
+    let (act, (named, _)) = made.acts in
     let hand = made.prepared ∙ c.next_names.ensures.left in
     record {
       between = c.place.ensures.between;
       counted = rw first (fate_by (rw (made.same, c.ticket-ticket.ensures, next) at c.place.ensures.counted)
-          (λ opened. (opened.0, (c.in-Ok.berth.value, rw next at made.fresh, (c.prepare.new.acts, rw next at made.acts, opened.1))))
+          (λ opened. (opened.0, (c.in-Ok.berth.value, rw next at made.fresh, (c.prepare.new.acts, (act, (rw next at named, made.wires)), opened.1))))
           (λ found. (c.prepare.new.acts, rw next at made.acts, found)));
       done = placed_there hand first (rw (made.same, c.ticket-ticket.ensures) at c.place.ensures.done) (λ tries tried. record {
         acts = rw tried.once (
           c.place.new.acts,
-          tried_once (Naming g.A.Moves.named g.A.Acts.made) _ c.args.acts.now c.prepare.new.acts c.place.new.acts
-              (λ acts. (c.args.client, (c.in-Ok.berth.value, made.fresh, (c.prepare.new.acts, made.acts, acts))))
+          tried_once (λ client. Naming g.A.Moves.named (Wires (g.A.Moves.registered client)) g.A.Acts.made) _ c.args.acts.now c.prepare.new.acts c.place.new.acts
+              c.requires.accepted (λ acts. (c.in-Ok.berth.value, made.fresh, (c.prepare.new.acts, (act, (named, made.wires)), acts)))
               (λ acts. (c.prepare.new.acts, made.acts, acts)) tried,
           refl,
         );

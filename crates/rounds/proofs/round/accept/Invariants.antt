@@ -9,7 +9,8 @@ invariant-loop-try g l = record {
   between : Between l.shared.claims l.own l.poller;
   room : 4 ≤ l._try + ticket_room l.own.hand;
   tries : l._try + l.poller.tries ≡ 4;
-  done : AcceptDone (TriesMade g.A.Moves.moved g.A.Moves.named g.A.Acts.made g.F.Front.may_tell l.fn.poller l.fn.acts l.acts) l.fn.poller l.poller l.fn.own l.own;
+  done : AcceptDone (TriesMade g.A.Moves.moved g.A.Moves.named g.A.Moves.registered g.A.Acts.made g.F.Front.accepted g.F.Front.may_tell
+      l.fn.poller l.fn.acts l.acts) l.fn.poller l.poller l.fn.own l.own;
   still : IsWorn l.fn.own.seat → l.own.seat ≡ l.fn.own.seat;
   answered : OnlyAnswered g.F.Front.gave_none l.fn.poller l.poller;
 }
