@@ -363,7 +363,7 @@ fn not_accepted<F: Front + Counting, A, R: Log>(
       episodes = episodes_after class poller.old.episodes;
     } }
     ensures starved { result ≡ false → poller.new.starved ≡ true }
-    ensures noted { result ≡ false → F.starved }
+    ensures noted { unaccepted_of (error_kind error.now) ≡ Unaccepted.Starved → F.starved }
 {
     match unaccepted_of(error.kind()) {
         Unaccepted::Again => true,
