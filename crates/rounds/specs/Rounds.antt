@@ -1,6 +1,6 @@
 -- What a round of the poller does. Of four states the first two are the poller's, before and after, and the last two
 -- what its thread owns.
-use Rattle.std.specs.Prelude.{◌≡◌, ◌≢◌, ◌⊎◌, ◌↔◌, ℕ, ◌+◌, ◌<◌, ◌≤◌, true, false, List, [], ◌++◌, length, Contains, Result, Err}
+use Rattle.std.specs.Prelude.{◌≡◌, ◌≢◌, ◌⊎◌, ℕ, ◌+◌, ◌<◌, ◌≤◌, true, false, List, [], ◌++◌, length, Contains}
 use Rattle.ready.specs.declared.ticket.Ticket.{Ticket}
 use Rattle.common.specs.{declared.{front.{Route.Route, Unaccepted.Unaccepted, Waiting.Waiting}, places.Berth.Berth, shared.Own.Own}, Acts.Made, Hands.ticket_room, Outgoing.tickets_out, Posts.{IsWorn, OnlyWorn}}
 use Rattle.sizes.specs.declared.split.Part.{Part}
@@ -174,13 +174,11 @@ pub record IsOver (p : PollerState) (own : Own) : Type 0 where
 abbrev pub LooksForAll : PollerState → Own → Type 0
 LooksForAll p own = HasOpenedAll p → IsBack p own → p.over ≡ true
 
--- A round that began, and whose poll did not fail: it is refused exactly if the seat is worn then. It delivered what its
--- front reported, at a second that the clock may show. A sweep was made if one was due, accepting ended for a reason, the
--- accept flag is up only by a report or as before, it is down and accept(2) starved only by an answer or as before, and no
--- drop is left to be logged at this second
-pub record RoundEnded (result : Result (Unit {0}) ServerFault) (tells : ℕ → Type 0) (gave_none : Unaccepted → Type 0) (limit : ℕ)
-    (old new : PollerState) (has : Own) : Type 0 where
-  pub answer : (result ≡ Err server_fault.Worn) ↔ IsWorn has.seat
+-- A round that began, and whose poll did not fail. It delivered what its front reported, at a second that the clock may
+-- show. A sweep was made if one was due, accepting ended for a reason, the accept flag is up only by a report or as before,
+-- it is down and accept(2) starved only by an answer or as before, and no drop is left to be logged at this second
+pub record RoundEnded (tells : ℕ → Type 0) (gave_none : Unaccepted → Type 0) (limit : ℕ) (old new : PollerState) (has : Own)
+    : Type 0 where
   pub read : new.batch ≡ new.seen.reported
   pub second : tells new.second
   pub swept : new.swept ≡ swept_after limit old.second old.swept

@@ -62,7 +62,8 @@ pub fn poller_round<F: Front, A: Moves<F>, C: Clock, R: Wait + Log>(
     ensures made { RoundInOrder A.moved A.named A.made F.may_tell poller.old poller.new own.old own.new acts.old acts.new }
     ensures none { EndedEarly shared.now.claims.words own.old ⊎ (result ≡ Err ServerFault.Poll) → acts.new ≡ acts.old }
     ensures ended { EndedEarly shared.now.claims.words own.old ⊎ ((result ≡ Err ServerFault.Poll)
-        ⊎ RoundEnded result (C.tells timing.now.clock.now) F.gave_none timing.now.limit poller.old poller.new own.new) }
+        ⊎ (((result ≡ Err ServerFault.Worn) ↔ IsWorn own.new.seat)
+        × RoundEnded (C.tells timing.now.clock.now) F.gave_none timing.now.limit poller.old poller.new own.new)) }
     ensures keeps { RoundKeeps timing.now.limit poller.old poller.new own.old own.new }
     ensures refused { IfErr result (λ fault. RoundRefused fault poller.old poller.new own.old own.new) }
 {

@@ -75,8 +75,7 @@ returns g c =
       waits = inr (rw last looked.waits);
       made = round_of {r = c.raise_accept_flag.new.self} looked.poller looked.took delivered.posts (rw raised) timed.posts timed.poller (accept_and_took accepted.done back.took)
           (λ is. rw (back.took.seat, accepted.still is) is) (rw (end, told));
-      ended = inr (inr (record {
-        answer = answer.0;
+      ended = inr (inr (answer.0, record {
         read = rw last looked.batch;
         second = rw (end, told, accepted.done.did.poller) timed.told;
         swept = rw (end, told, accepted.done.did.poller) swept;
