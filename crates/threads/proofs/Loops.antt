@@ -1,12 +1,12 @@
 -- What the calls of a thread's loop do with the tickets that it is obliged to put.
-use Rattle.std.{proofs.{Common.{◌≡◌, ◌≢◌, ℕ, zero, suc, ◌+◌, ◌-◌, ◌<◌, ◌≤◌, Bool, true, false, cond, List, [], ◌∷◌, ◌++◌, drop, length, length-append, length-set, sym, ◌∙◌, refl, ap, arith, inl, inr, append_assoc}, lemmas.{List.{get_or-set_same, map-append, append-nil, set-set, Concat.flat_map-append, Elements.{All-append, All-head, All-map, All-tail, All-weaker}, Sums.{sum_by-append, sum_by-set}}, Option.{none-some, same_Some, get_or_from_slice_get, slice_get-get_or, slice_get_read, slice_get_within}, Bool.{ltb-true, ltb-false, cases_lt}}, Math.Seq.map-set_same}, specs.{List.{All, slice_set}, Prelude.{◌==◌, ◌&&◌, Option, Some, None, Result, Ok, Err, IsOk, OnOk, IfErr, slice_get, map, nat_lt, if◌then◌else◌, ◌⊎◌}}}
+use Rattle.std.{proofs.{Common.{◌≡◌, ◌≢◌, ℕ, zero, suc, ◌+◌, ◌-◌, ◌<◌, ◌≤◌, Bool, true, false, cond, List, [], ◌∷◌, ◌++◌, drop, length, length-append, length-set, sym, ◌∙◌, refl, ap, add-one, arith, inl, inr, append_assoc}, lemmas.{List.{get_or-set_same, map-append, append-nil, set-set, Concat.flat_map-append, Elements.{All-append}, Sums.{sum_by-append, sum_by-set}}, Option.{get_or_from_slice_get, slice_get-get_or, slice_get_read, slice_get_within}, Bool.{ltb-true, ltb-false}}, Math.Seq.map-set_same}, specs.{List.{All, slice_set}, Prelude.{◌==◌, ◌&&◌, ◌↔◌, Option, Some, None, Result, Ok, Err, IsOk, slice_get, map, nat_lt, if◌then◌else◌, ◌⊎◌}}}
 use Rattle.claims.specs.{declared.view.Exchange.Exchange, Views.minted_by, Seats.SeatState}
 use Rattle.ready.specs.{declared.{history.History.History, ticket.Ticket.Ticket}, Steps.QueueEnd}
-use Rattle.sizes.specs.declared.faults.ServerFault.{ServerFault, TheVariants.Poll}
-use Rattle.common.{proofs.Outgoing.took_both, specs.{declared.{front.Unaccepted.Unaccepted, shared.Own.Own}, Acts.Made, Hands.HandState, Outgoing.{Inserted, outgoing, tickets_out, slots_out, without_first}, Heavy.looked_at}}
-use Rattle.turns.specs.{declared.worker.{HandPut.HandPut, Worked.Worked}, Shares.{AreShared, OneShared, TicketsShared}, Turns.{TicketsKept, SlotsKept, TurnMade, WorkerTurn, OldestRan, OwnTurn, Handled, Playing, program}}
-use Rattle.threads.{proofs.Divided.End, specs.{Divided.ends_of, declared.{ending.{Ended.Ended, Why.{Why, TheVariants.FaultFound}}, working.Owned.Owned}, Loops.{faults_by, times_of, freed, Run, tickets_of, act_of, acts_of, due_from, fault_in, faults_of, IsRun, TurnsMade, takes_of, times_by, times_given, SlotsGiven, Changes, OthersKept, OneRan, tickets_in, Took, WorkerMayEnd, WorkerEnded, WorkerRan, OwnTurnsRan, OwnRan, SharedAndRan, TurnsCut, NoTicketTaken, Asked, Ends, EndsWell, RoundMade, RoundOver, TurnsAfter, StepCut, StepsMade, IsPollerAct, PollerRan, opened_by, openings_of}}}
-use Rattle.rounds.{specs.{Pollers.PollerState, Rounds.{EndedEarly, NotBegun, RoundDone, RoundEnded, RoundKeeps}, Acts.{SeatAct, made_by, due_of, IsPost, IsTry}, Openings.{slots_in, times}}, proofs.Acts.{all_none, all_one, acts_none, acts_one, acts_both, at_slot-append, due-append}}
+use Rattle.sizes.specs.{declared.faults.ServerFault.{ServerFault, TheVariants.{Poll, Worn}}, Limits.own_turns}
+use Rattle.common.specs.{declared.{front.Unaccepted.Unaccepted, shared.Own.Own}, Acts.Made, Hands.HandState, Outgoing.{Inserted, outgoing, tickets_out, slots_out}, Posts.IsWorn}
+use Rattle.turns.specs.{declared.worker.{HandPut.HandPut, Worked.Worked}, Turns.{TicketsKept, SlotsKept, TurnMade, WorkerTurn, OldestRan, OwnTurn, Handled, Playing, NoOwnTurn, marks_after}}
+use Rattle.threads.{proofs.Divided.End, specs.{Divided.ends_of, declared.{ending.Why.{Why, TheVariants.FaultFound}, working.Owned.Owned}, Loops.{faults_by, times_of, freed, Run, acts_of, due_from, fault_in, faults_of, IsRun, TurnsMade, takes_of, times_by, times_given, SlotsGiven, Changes, OthersKept, OneRan, tickets_in, Took, WorkerMayEnd, WorkerEnded, WorkerRan, OldestTurn, OnlyMarked, OwnRan, OwnTurnMade, SharedAndRan, TurnsAfter, Asked, RoundMade, RoundOver}}}
+use Rattle.rounds.{specs.{Pollers.PollerState, Rounds.{EndedEarly, NotBegun, RoundDone, RoundEnded, RoundKeeps, WaitedAsMay}, Acts.made_by, Openings.times}, proofs.Acts.{all_none, all_one, acts_none, acts_one, acts_both, due-append}}
 use Rattle.turns.specs.declared.worker.Worked.TheVariants as worked
 
 -- how often a ticket, or a slot, stands in lists one after the other
@@ -17,18 +17,11 @@ times-append u = sum_by-append (λ (t : Ticket). cond ((t.slot == u.slot) && (t.
 slots-append : (s : ℕ) (xs ys : List ℕ) → times s (xs ++ ys) ≡ times s xs + times s ys
 slots-append s = sum_by-append (λ (x : ℕ). cond (x == s) 1 0)
 
-ran-append : (u : Ticket) (xs ys : List Run) → times_of u (tickets_of (xs ++ ys)) ≡ times_of u (tickets_of xs) + times_of u (tickets_of ys)
-ran-append u xs ys = rw map-append (times-append u (tickets_of xs) (tickets_of ys))
-
 made-append : (u : Ticket) (xs ys : List Run) → times_of u (due_from (xs ++ ys)) ≡ times_of u (due_from xs) + times_of u (due_from ys)
 made-append u xs ys = rw (map-append, due-append) (times-append u (due_from xs) (due_from ys))
 
 freed-append : (s : ℕ) (xs ys : List Run) → times s (freed (xs ++ ys)) ≡ times s (freed xs) + times s (freed ys)
 freed-append s xs ys = rw flat_map-append (slots-append s (freed xs) (freed ys))
-
-times_first : (u : Ticket) (ts : List Ticket) (t : Ticket) → slice_get ts 0 ≡ Some t → times_of u ts ≡ times_of u (t ∷ []) + times_of u (drop 1 ts)
-times_first u [] t first = absurd (none-some t first)
-times_first u (t ∷ ts) v first = rw (← same_Some t v first) (times-append u (t ∷ []) ts)
 
 inserted : {T : Type 0} {t : T} {old new : List T} (count : List T → ℕ) → ((xs ys : List T) → count (xs ++ ys) ≡ count xs + count ys) → Inserted t old new
     → count new ≡ count (t ∷ []) + count old
@@ -250,240 +243,43 @@ one_ran {p = p} {t = t} {answer = answer} {a = a} {b = b} {c = c} {h = h} same o
 
 -- A poller
 
--- sharing the tickets in hand loses none
-module _ {X : Type 0} (full : Option X) (u : Ticket) where
-  one_shared : (stayed : ℕ) (heavy : List ℕ) (t : Ticket) (queue : QueueEnd Ticket) (after : ℕ) (in_hand : List Ticket) (next : QueueEnd Ticket)
-      → OneShared full stayed heavy t queue after in_hand next
-      → times_of u (puts next.history) + times_of u in_hand ≡ times_of u (puts queue.history) + times_of u (t ∷ [])
-  one_shared stayed heavy t queue after in_hand next (inl stays) = rw (stays.2, stays.3)
-  one_shared stayed heavy t queue after in_hand next (inr (goes, still, inl put)) =
-      rw (put.1, put.0.put.put, map-append) (omega (arith, times-append u (puts queue.history) (t ∷ [])))
-  one_shared stayed heavy t queue after in_hand next (inr (goes, still, inr refused)) = rw (refused.2, refused.1)
+-- a turn that was not made, or met a fault, marks no slot
+none_marks : (t : Option Ticket) (heavy : List ℕ) → marks_after t (Ok None) heavy ≡ heavy
+none_marks None heavy = refl
+none_marks (Some t) heavy = refl
 
-  all_shared : (stayed : ℕ) (heavy : List ℕ) (ts : List Ticket) (queue : QueueEnd Ticket) (kept : List Ticket) (left : List ℕ) (end : QueueEnd Ticket)
-      → AreShared full stayed heavy ts queue kept left end
-      → times_of u (puts end.history) + times_of u kept ≡ times_of u (puts queue.history) + times_of u ts
-  all_shared stayed heavy [] queue kept left end none = rw (none.0, none.2)
-  all_shared stayed heavy (t ∷ ts) queue kept left end (after, in_hand, next, rest, one, is, more) = rw is (omega (
-    arith,
-    one_shared stayed heavy t queue after in_hand next one,
-    all_shared after (looked_at t.slot heavy) ts next rest left end more,
-    times-append u in_hand rest,
-    times-append u (t ∷ []) ts,
-  ))
+fault_marks : (t : Option Ticket) (fault : ServerFault) (heavy : List ℕ) → marks_after t (Err fault) heavy ≡ heavy
+fault_marks None fault heavy = refl
+fault_marks (Some t) fault heavy = refl
 
-  shared_same : {heavy left : List ℕ} {a b : Own} → TicketsShared full heavy left a b → times_of u (tickets_out b) ≡ times_of u (tickets_out a)
-  shared_same {heavy} {left} {a} {b} shared = omega (
-    arith,
-    all_shared 0 heavy a.hand.tickets a.ready b.hand.tickets left b.ready shared.tickets,
-    times-append u (puts a.ready.history) a.hand.tickets,
-    times-append u (puts b.ready.history) b.hand.tickets,
-  )
+pub ran_fewer : {n : ℕ} {p q r : PollerState} {a b c : Own} → SharedAndRan n p q a b → OnlyMarked (Ok None) b q r → c ≡ b → n ≤ own_turns → NoOwnTurn b → TurnsAfter p r a c
+ran_fewer {n} {q = q} {b = b} made marked same most none =
+    rw (same, marked, none_marks (slice_get b.hand.tickets 0) q.heavy) (record { count = n; made = made; most = most; ended = inr none })
 
--- no turn was run
-pub own_none : {a : Own} → OwnTurnsRan 0 [] a a
-own_none = record {
-  ran = [];
-  each = refl;
-  met = refl;
-  took = record { tickets = refl; slots = refl };
-  turns = turns_none;
-  tickets = λ u. refl;
-  slots = λ s. omega arith;
-}
+pub marked_none : (fault : ServerFault) {n : ℕ} {p q r : PollerState} {a b : Own} → SharedAndRan n p q a b → OnlyMarked (Err fault) b q r → SharedAndRan n p r a b
+marked_none fault {q = q} {b = b} made marked = rw (marked, fault_marks (slice_get b.hand.tickets 0) fault q.heavy) made
 
-pub own_both : {n m : ℕ} {faults : List ServerFault} {a b c : Own} → OwnTurnsRan n [] a b → OwnTurnsRan m faults b c → OwnTurnsRan (n + m) faults a c
-own_both one two = record {
-  ran = one.ran ++ two.ran;
-  each = omega (arith, length-append one.ran two.ran, one.each, two.each);
-  met = faults_both one.ran two.ran one.met two.met;
-  took = took_both one.took two.took;
-  turns = turns_both one.turns two.turns;
-  tickets = λ u. omega (arith, one.tickets u, two.tickets u, made-append u one.ran two.ran, ran-append u one.ran two.ran);
-  slots = λ s. omega (arith, one.slots s, two.slots s, freed-append s one.ran two.ran);
-}
-
--- the oldest ticket in hand was run
-own_one : {words : ℕ} {answer : Result Worked ServerFault} {S C T : Type 0} {acts : Handled C T → Made S} {plays : Playing C T} {from to : S} {a b : Own} → a.seat.table.words ≡ words
-    → OldestRan acts plays words answer a b from to → OwnTurnsRan 1 (fault_in answer) a b
-own_one {answer = answer} {a = a} {b = b} same run =
-    let t = run.ticket in
-    let made = run.turn.0 in
-    record {
-      ran = run_of t answer made.exchanges ∷ [];
-      each = refl;
-      met = append-nil (fault_in answer);
-      took = record { tickets = made.done.took.tickets; slots = made.done.took.slots };
-      turns = turns_one same made;
-      tickets = λ u. omega (
-        arith,
-        tickets_one t (minted_by made.exchanges) (without_first a) b made.done.tickets u,
-        times-append u (puts a.ready.history) a.hand.tickets,
-        times-append u (puts a.ready.history) (drop 1 a.hand.tickets),
-        times_first u a.hand.tickets t run.oldest,
-      );
-      slots = slots_one t answer (without_first a) b made.done.slots made.exchanges;
-    }
-
-pub own_ran : (words : ℕ) {S C T : Type 0} (acts : Handled C T → Made S) (plays : Playing C T) (from to : S) (result : Result (Option Worked) ServerFault) (a b : Own)
-    → a.seat.table.words ≡ words → OwnTurn acts plays words result a b from to → OwnRan result a b
-own_ran words acts plays from to (Ok None) a b same turn = turn.0
-own_ran words acts plays from to (Ok (Some worked)) a b same turn = own_one same turn
-own_ran words acts plays from to (Err fault) a b same turn = own_one same turn
-
--- more of the tickets that stayed were run
-pub shared_then : {n m : ℕ} {faults : List ServerFault} {p q r : PollerState} {a b c : Own} → SharedAndRan n [] p q a b → OwnTurnsRan m faults b c
-    → r ≡ record q { heavy = r.heavy } → SharedAndRan (n + m) faults p r a c
-shared_then {r = r} made turns same = record {
+-- one turn more was run
+pub one_more : {n : ℕ} {p q r : PollerState} {a b c : Own} → SharedAndRan n p q a b → OwnTurnMade q r b c → SharedAndRan (n + 1) p r a c
+one_more {q = q} {b = b} made turn = rw add-one (record {
   full = made.full;
   heavy = made.heavy;
   shared = made.shared;
   sharing = made.sharing;
-  turns = own_both made.turns turns;
-  poller = same ∙ ap (λ (s : PollerState). record s { heavy = r.heavy }) made.poller;
-}
+  turns = (q, b, made.turns, turn);
+})
 
--- Which connections acts opened
+module _ {said : Bool → Type 0} (tells : ℕ → Type 0) (gave_none : Unaccepted → Type 0) {limit words : ℕ} {p q : PollerState} {a b : Own} where
+  -- a round, after a look at the flag
+  abbrev pub round_made : {begun : PollerState} → Asked said p begun → RoundDone begun q a b → RoundKeeps limit begun q a b → words ≡ length q.table → EndedEarly words a ⊎ WaitedAsMay limit begun q a
+      → RoundMade said tells gave_none limit p q a b
+  round_made {begun} asked done keeps same waits = record { begun = begun; asked = asked; round = done; keeps = keeps; waits = rw same at waits }
 
-abbrev opened_in : SeatAct → List Ticket
-opened_in act = opened_by act.exchanges act.ticket
-
-abbrev OpensNone : SeatAct → Type 0
-OpensNone act = opened_in act ≡ []
-
-none_opened : (acts : List SeatAct) → All OpensNone acts → openings_of acts ≡ []
-none_opened [] each = refl
-none_opened (act ∷ acts) each = rw (All-head OpensNone act acts each) (none_opened acts (All-tail OpensNone act acts each))
-
-posts_open_none : (posts : List SeatAct) → All IsPost posts → openings_of posts ≡ []
-posts_open_none posts each = none_opened posts (All-weaker IsPost OpensNone (λ post is. rw is.1) posts each)
-
-try_opens : (act : SeatAct) → IsTry act → opened_in act ≡ made_by (minted_by act.exchanges) act.ticket
-try_opens act (inl (found, noted, is)) = rw is
-try_opens act (inr (inl is)) = rw is
-try_opens act (inr (inr is)) = rw is
-
-tries_open : (tries : List SeatAct) → All IsTry tries → openings_of tries ≡ due_of tries
-tries_open [] each = refl
-tries_open (act ∷ tries) each = rw (try_opens act (All-head IsTry act tries each), tries_open tries (All-tail IsTry act tries each))
-
-program_opens_none : (answer : Result Worked ServerFault) (found noted : ℕ) (woke : Bool) (t : Ticket) → opened_by (program answer found noted woke) t ≡ []
-program_opens_none (Ok worked.Busy) found noted woke t = refl
-program_opens_none _ found noted woke t = refl
-
-turn_opens_none : (words : ℕ) (run : Run) → IsRun words run → (run.ticket.slot < words) ⊎ (words ≤ run.ticket.slot) → OpensNone (act_of run)
-turn_opens_none words run is (inl inside) = rw (is.inside inside) (program_opens_none run.answer is.found is.noted is.woke run.ticket)
-turn_opens_none words run is (inr outside) = rw (is.outside outside).0
-
--- what holds of each turn's act
-each_act : (P : SeatAct → Type 0) (words : ℕ) (ran : List Run) → ((run : Run) → IsRun words run → P (act_of run)) → All (IsRun words) ran → All P (acts_of ran)
-each_act P words ran one each = All-map P act_of ran (All-weaker (IsRun words) (λ run. P (act_of run)) one ran each)
-
-turns_open_none : (words : ℕ) (ran : List Run) → All (IsRun words) ran → openings_of (acts_of ran) ≡ []
-turns_open_none words ran each = none_opened (acts_of ran)
-    (each_act OpensNone words ran (λ run is. turn_opens_none words run is (cases_lt run.ticket.slot words)) each)
-
--- Rounds and steps, by ticket
-
-pub ran_none : {a : Own} → PollerRan a a
-ran_none {a} = record {
-  acts = [];
-  each = all_none (IsPollerAct a.seat.table.words);
-  made = acts_none a.seat;
-  ran = [];
-  lost = [];
-  tickets = λ u. refl;
-  took = refl;
-  slots = λ s. omega arith;
-}
-
-pub ran_both : {a b c : Own} → PollerRan a b → PollerRan b c → PollerRan a c
-ran_both {a} {b} {c} one two = record {
-  acts = one.acts ++ two.acts;
-  each = All-append (IsPollerAct a.seat.table.words) one.acts two.acts one.each (rw one.made.table at two.each);
-  made = acts_both one.acts two.acts a.seat b.seat c.seat one.made two.made;
-  ran = one.ran ++ two.ran;
-  lost = one.lost ++ two.lost;
-  tickets = λ u. rw due-append (omega (arith, one.tickets u, two.tickets u, ran-append u one.ran two.ran, times-append u (due_of one.acts) (due_of two.acts)));
-  took = two.took ∙ one.took;
-  slots = λ s. rw (flat_map-append opened_in one.acts two.acts) (omega (
-    arith,
-    one.slots s,
-    two.slots s,
-    freed-append s one.ran two.ran,
-    slots-append s one.lost two.lost,
-    at_slot-append s (openings_of one.acts) (openings_of two.acts),
-  ));
-}
-
-round_ran : {p q : PollerState} {a b : Own} → RoundDone p q a b → NoTicketTaken a b → PollerRan a b
-round_ran {a = a} {b = b} done took = record {
-  acts = done.reports ++ (done.sweep ++ done.tries);
-  each = All-append (IsPollerAct a.seat.table.words) done.reports (done.sweep ++ done.tries) (λ i d lt. inl (done.reported.each i d lt))
-      (All-append (IsPollerAct a.seat.table.words) done.sweep done.tries (λ i d lt. inl (done.swept.each i d lt)) (λ i d lt. inr (inl (done.tried.each i d lt))));
-  made = done.made;
-  ran = [];
-  lost = done.lost;
-  tickets = λ u. rw (due-append, due-append, done.tried.made)
-      (omega (arith, ap (times_of u) done.tickets, times-append u (tickets_out a) (due_of done.reports ++ (due_of done.sweep ++ done.opened))));
-  took = took;
-  slots = λ s. (
-      let opened : openings_of (done.reports ++ (done.sweep ++ done.tries)) ≡ done.opened =
-      rw (flat_map-append, flat_map-append, posts_open_none done.reports done.reported.each, posts_open_none done.sweep done.swept.each, tries_open done.tries done.tried.each)
-      done.tried.made in
-      rw opened (omega (
-        arith,
-        done.slots s,
-        ap (λ (gave : List (ℕ × ℕ)). times s (map (λ (put : ℕ × ℕ). put.1) gave)) done.gave,
-        given_out s a,
-        given_out s b,
-      )));
-}
-
-turns_ran : {count : ℕ} {faults : List ServerFault} {p q : PollerState} {a b : Own} → SharedAndRan count faults p q a b → PollerRan a b
-turns_ran {a = a} {b = b} made =
-    let words = made.shared.seat.table.words in
-    record {
-      acts = acts_of made.turns.ran;
-      each = rw made.sharing.seat at (each_act (IsPollerAct words) words made.turns.ran (λ run is. inr (inr (run.answer, is))) made.turns.turns.each);
-      made = rw made.sharing.seat at made.turns.turns.made;
-      ran = made.turns.ran;
-      lost = [];
-      tickets = λ u. omega (arith, made.turns.tickets u, shared_same made.full u made.sharing);
-      took = made.turns.took.tickets ∙ made.sharing.took;
-      slots = λ s. (
-          let taken : slots_in b ≡ slots_in a = rw (made.turns.took.slots, made.sharing.free) in
-          let out : slots_out made.shared ≡ slots_out a = rw (made.sharing.free, made.sharing.slots) in
-          rw (turns_open_none words made.turns.ran made.turns.turns.each) (omega (arith, made.turns.slots s, ap (times s) taken, ap (times s) out)));
-    }
-
-pub step_ran : {said : Bool → Type 0} {p q r : PollerState} {a b c : Own} → RoundMade said p q a b → TurnsAfter q r b c → PollerRan a c
-step_ran round turns = ran_both (round_ran round.round round.took) (turns_ran turns.made)
-
--- a round, and the turns after it, whether one was cut off or not
-pub step_or_cut : {said : Bool → Type 0} {p q : PollerState} {a b c : Own} (mark : ℕ) (r : PollerState) (answer : Result (Unit {0}) Ended) → RoundMade said p q a b
-    → OnOk answer (TurnsAfter q r b c) → IfErr answer (λ ended. TurnsCut mark ended.why q r b c) → PollerRan a c
-step_or_cut mark r (Ok done) round turns cut = step_ran round turns
-step_or_cut mark r (Err ended) round turns cut = ran_both (round_ran round.round round.took) (turns_ran cut.made)
-
-pub cut_ran : {said : Bool → Type 0} {ends : Ends} {mark : ℕ} {why : Why} {p q : PollerState} {a b : Own} → StepCut said ends mark why p q a b → PollerRan a b
-cut_ran (inl same) = rw same.own ran_none
-cut_ran (inr (inl cut)) = round_ran cut.made.round cut.made.took
-cut_ran (inr (inr step)) = ran_both (round_ran step.round.made.round step.round.made.took) (turns_ran step.turns.made)
-
-pub steps_ran : (said : Bool → Type 0) (ends : Ends) (steps : ℕ) (p q : PollerState) (a b : Own) → StepsMade said ends steps p q a b → PollerRan a b
-steps_ran said ends zero p q a b same = rw same.1 ran_none
-steps_ran said ends (suc steps) p q a b (r, c, before, last) = ran_both (steps_ran said ends steps p r a c before) (step_ran last.round.made last.turns)
-
--- a round, after a look at the flag
-abbrev pub round_made : {said : Bool → Type 0} {limit : ℕ} {p begun q : PollerState} {a b : Own} → Asked said p begun → RoundDone begun q a b → RoundKeeps limit begun q a b
-    → RoundMade said p q a b
-round_made {begun = begun} asked done keeps = record { begun = begun; asked = asked; round = done; most = keeps.most; listens = keeps.listens; took = keeps.took }
-
--- it was not refused
-pub round_over : {said : Bool → Type 0} {words : ℕ} (tells : ℕ → Type 0) (gave_none : Unaccepted → Type 0) (limit : ℕ) {done : Unit {0}} {p q : PollerState} {a b : Own}
-    → (made : RoundMade said p q a b) → words ≡ length q.table → (EndedEarly words a → IsOk {E = ServerFault} (Ok done) × NotBegun made.begun q a b)
-    → EndedEarly words a ⊎ ((Ok done ≡ Err Poll) ⊎ RoundEnded (Ok done) tells gave_none limit made.begun q b) → RoundOver said (EndsWell tells gave_none limit) p q a b
-round_over tells gave_none limit made same early (inl few) = record { made = made; ended = inl (rw (← same) few, (early few).1) }
-round_over tells gave_none limit made same early (inr (inl failed)) = absurd (cc failed)
-round_over tells gave_none limit {done} made same early (inr (inr ended)) = record { made = made; ended = inr (Ok done, refl, ended) }
+  -- it was not refused
+  pub round_over : {done : Unit {0}} (made : RoundMade said tells gave_none limit p q a b) → words ≡ length q.table
+      → (EndedEarly words a → IsOk {E = ServerFault} (Ok done) × NotBegun made.begun q a b)
+      → EndedEarly words a ⊎ ((Ok done ≡ Err Poll) ⊎ (((Ok done ≡ Err Worn) ↔ IsWorn b.seat) × RoundEnded tells gave_none limit made.begun q b))
+      → RoundOver said tells gave_none limit p q a b
+  round_over made same early (inl few) = record { made = made; ended = inl (rw (← same) few, (early few).1) }
+  round_over made same early (inr (inl failed)) = absurd (cc failed)
+  round_over made same early (inr (inr ended)) = record { made = made; ended = inr ((λ worn. cc (ended.0.1 worn)), ended.1) }

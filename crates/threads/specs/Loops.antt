@@ -1,13 +1,13 @@
 -- Why a thread's loop ends, which fault a server ends by, and what a loop does with tickets and with free slots.
-use Rattle.std.specs.{Prelude.{◌≡◌, ◌≢◌, ◌⊎◌, ℕ, zero, suc, ◌+◌, ◌-◌, ◌<◌, ◌≤◌, ◌==◌, ◌&&◌, Bool, true, false, nat_lt, if◌then◌else◌, Option, Some, None, option_to_list, List, [], ◌∷◌, ◌++◌, length, map, Result, Ok, Err, IsOk, slice_get, slice_set, IfSome, IsSome, option_map}, List.{count_by, flat_map, sum_by, All}}
+use Rattle.std.specs.{Prelude.{◌≡◌, ◌≢◌, ◌⊎◌, ℕ, zero, suc, ◌+◌, ◌-◌, ◌<◌, ◌≤◌, ◌==◌, ◌&&◌, Bool, true, false, nat_lt, if◌then◌else◌, Option, Some, None, option_to_list, List, [], ◌∷◌, ◌++◌, length, map, Result, Ok, Err, slice_get, slice_set, IfSome, IsSome, option_map}, List.{count_by, flat_map, sum_by, All}}
 use Rattle.token.specs.Names.{last_generation}
-use Rattle.claims.specs.{declared.view.Exchange.{Exchange, TheVariants.Adopted}, Seats.SeatState}
+use Rattle.claims.specs.{declared.view.Exchange.Exchange, Seats.SeatState}
 use Rattle.ready.specs.{declared.{moment.Full.Full, ticket.Ticket.Ticket}, Steps.{EndState, TookOne, look_of}}
 use Rattle.sizes.specs.declared.faults.ServerFault.{ServerFault}
-use Rattle.common.specs.{declared.{front.Unaccepted.Unaccepted, shared.Own.Own}, Outgoing.{TookNothing, tickets_out, slots_out}, Posts.OnlyWorn}
+use Rattle.common.specs.{declared.{front.Unaccepted.Unaccepted, shared.Own.Own}, Outgoing.{tickets_out, without_first}, Posts.{IsWorn, OnlyWorn}}
 use Rattle.sizes.specs.{declared.split.Split.Split, Limits.own_turns, Splits.{IsIn, part_of, parts_of}}
-use Rattle.turns.specs.{declared.worker.Worked.Worked, Shares.TicketsShared, Turns.{IsTurnOf, NoOwnTurn}}
-use Rattle.rounds.specs.{Acts.{SeatAct, ActsMade, IsPost, IsTry, at_slot, due_of}, Pollers.{PollerState, HasOpenedAll}, Openings.{slots_in, times}, Rounds.{EndedEarly, NotBegun as NoRound, ListenerKept, RoundDone, RoundEnded, RoundRefused}}
+use Rattle.turns.specs.{declared.worker.Worked.Worked, Shares.TicketsShared, Turns.{IsTurnOf, NoOwnTurn, TurnMade, marks_after}}
+use Rattle.rounds.specs.{Acts.{SeatAct, ActsMade, due_of}, Pollers.{PollerState, HasOpenedAll}, Openings.times, Rounds.{EndedEarly, NotBegun as NoRound, RoundDone, RoundEnded, RoundKeeps, RoundRefused, WaitedAsMay}}
 use Rattle.threads.specs.{declared.{ending.Why.{Why, TheVariants.{FaultFound, PollerOver, QueueClosed, Met}}, working.Owned.Owned}, Divided.ends_of}
 use Rattle.turns.specs.declared.worker.Worked.TheVariants as worked
 
@@ -138,16 +138,13 @@ pub record WorkerRan (left : List Ticket) (faults : List ServerFault) (old new :
   pub met : faults_of ran ≡ faults
   pub taken : tickets_in new.own ≡ tickets_in old.own ++ (tickets_of ran ++ left)
 
--- a thread that runs turns may end: it found a fault, as this mark shows, or it met one since its seat is worn
-abbrev pub MayEnd : ℕ → Why → Own → Type 0
-MayEnd mark (FaultFound found) own = found ≡ mark
-MayEnd mark (Met fault) own = OnlyWorn fault own.seat
-MayEnd mark why own = ⊥
-
--- a worker may also end if it found its queue of tickets closed, and then empty, and has put and taken nothing since
+-- a worker's thread may end: it found a fault, as this mark shows, or it met one since its seat is worn, or it found its queue
+-- of tickets closed, and then empty, and has put and taken nothing since
 abbrev pub WorkerMayEnd : ℕ → Why → Own → Type 0
+WorkerMayEnd mark (FaultFound found) own = found ≡ mark
+WorkerMayEnd mark PollerOver own = ⊥
 WorkerMayEnd mark (QueueClosed drained) own = drained.nothing ≡ look_of own.ready
-WorkerMayEnd mark why own = MayEnd mark why own
+WorkerMayEnd mark (Met fault) own = OnlyWorn fault own.seat
 
 -- A worker's thread ran to its end. If a look found a fault, one ticket at most was taken and not run
 pub record WorkerEnded (mark : ℕ) (why : Why) (old new : Owned) : Type 0 where
@@ -163,51 +160,59 @@ pub record Took (ticket : Ticket) (old new : Own) : Type 0 where
   pub free : new.free ≡ old.free
   pub hand : new.hand ≡ old.hand
 
--- A poller's thread ran this many tickets in its hand, and met these faults. Each ticket that it was to put before, or
--- that these turns made, was run or is put or in hand, once. Each free slot that it was to give before, or that these
--- turns freed, is given or in hand, once. It took nothing from a queue
-pub record OwnTurnsRan (count : ℕ) (faults : List ServerFault) (old new : Own) : Type 0 where
-  pub ran : List Run
-  pub each : length ran ≡ count
-  pub met : faults_of ran ≡ faults
-  pub took : TookNothing old new
-  pub turns : TurnsMade ran old.seat new.seat
-  pub tickets : (t : Ticket) → times_of t (tickets_out new) + times_of t (tickets_of ran)
-      ≡ times_of t (tickets_out old) + times_of t (due_from ran)
-  pub slots : (slot : ℕ) → times slot (slots_out new) ≡ times slot (slots_out old) + times slot (freed ran)
+-- this step was made this many times, one after the other, and nothing else
+abbrev pub Repeated : (PollerState → PollerState → Own → Own → Type 0) → ℕ → PollerState → PollerState → Own → Own → Type 0
+Repeated step zero p q a b = (q ≡ p) × (b ≡ a)
+Repeated step (suc n) p q a b = (r : PollerState) × (c : Own) × Repeated step n p r a c × step r q c b
+
+-- the oldest ticket in hand had its turn, with this answer
+pub record OldestTurn (answer : Result Worked ServerFault) (a b : Own) : Type 0 where
+  pub ticket : Ticket
+  pub oldest : slice_get a.hand.tickets 0 ≡ Some ticket
+  pub turn : TurnMade a.seat.table.words ticket answer (without_first a) b
 
 -- what a turn of the oldest ticket in hand did, by its answer
 abbrev pub OwnRan : Result (Option Worked) ServerFault → Own → Own → Type 0
-OwnRan (Ok None) old new = new ≡ old
-OwnRan (Ok (Some worked)) old new = OwnTurnsRan 1 [] old new
-OwnRan (Err fault) old new = OwnTurnsRan 1 (fault ∷ []) old new
+OwnRan (Ok None) a b = b ≡ a
+OwnRan (Ok (Some worked)) a b = OldestTurn (Ok worked) a b
+OwnRan (Err fault) a b = OldestTurn (Err fault) a b
 
--- The tickets in hand were shared, and the poller's thread ran this many of those that stayed
-pub record SharedAndRan (count : ℕ) (faults : List ServerFault) (p q : PollerState) (a b : Own) : Type 0 where
+-- of the poller a turn of the oldest ticket in hand changed only the heavy marks, by its answer
+abbrev pub OnlyMarked : Result (Option Worked) ServerFault → Own → PollerState → PollerState → Type 0
+OnlyMarked result a p q = q ≡ record p { heavy = marks_after (slice_get a.hand.tickets 0) result p.heavy }
+
+-- a turn of the oldest ticket in hand, which met no fault
+abbrev pub OwnTurnMade : PollerState → PollerState → Own → Own → Type 0
+OwnTurnMade p q a b = (worked : Worked) × OldestTurn (Ok worked) a b × OnlyMarked (Ok (Some worked)) a p q
+
+-- the tickets in hand were shared, and the poller's thread ran this many of those that stayed, the oldest first
+pub record SharedAndRan (count : ℕ) (p q : PollerState) (a b : Own) : Type 0 where
+  pub full : Option (Full Ticket)
   pub heavy : List ℕ
   pub shared : Own
-  pub full : Option (Full Ticket)
   pub sharing : TicketsShared full p.heavy heavy a shared
-  pub turns : OwnTurnsRan count faults shared b
-  pub poller : q ≡ record p { heavy = q.heavy }
+  pub turns : Repeated OwnTurnMade count (record p { heavy = heavy }) q shared b
 
 -- after a round 32 of the tickets that stayed were run; if fewer were, none is left, or no more slot fits in hand
 pub record TurnsAfter (p q : PollerState) (a b : Own) : Type 0 where
   pub count : ℕ
-  pub made : SharedAndRan count [] p q a b
+  pub made : SharedAndRan count p q a b
   pub most : count ≤ own_turns
   pub ended : (count ≡ own_turns) ⊎ NoOwnTurn b
 
--- After a round fewer than 32 of the tickets that stayed were run, without a fault. If a turn met the fault that ended
--- the thread, it came after those
+-- why a poller's thread runs no more turns: a look found a fault, as this mark shows, or the next turn met one
+abbrev pub LastTurn : ℕ → Why → Own → Own → Type 0
+LastTurn mark (FaultFound found) a b = (found ≡ mark) × (b ≡ a)
+LastTurn mark (Met fault) a b = OldestTurn (Err fault) a b × OnlyWorn fault b.seat
+LastTurn mark why a b = ⊥
+
+-- after a round fewer than 32 of the tickets that stayed were run, without a fault, before the thread ended
 pub record TurnsCut (mark : ℕ) (why : Why) (p q : PollerState) (a b : Own) : Type 0 where
   pub count : ℕ
-  pub made : SharedAndRan (count + length (faults_by why)) (faults_by why) p q a b
+  pub between : Own
+  pub made : SharedAndRan count p q a between
   pub few : count < own_turns
-  pub reason : MayEnd mark why b
-
-abbrev pub NoTicketTaken : Own → Own → Type 0
-NoTicketTaken old new = new.ready.history.taken ≡ old.ready.history.taken
+  pub last : LastTurn mark why between b
 
 -- A look at the flag that stops openings found this; `said` is what is known of the look. If the flag was set, the
 -- poller may open no more from now on. Else the poller is as it was
@@ -217,102 +222,59 @@ pub record Asked (said : Bool → Type 0) (old new : PollerState) : Type 0 where
   pub stopped : found ≡ true → ((new ≡ old) × HasOpenedAll old) ⊎ (new ≡ record old { most = 0 })
   pub goes_on : found ≡ false → new ≡ old
 
--- what is known of the end of a round: of the poller before and after it, and of what its thread owns then
-abbrev pub Ends : Type 1
-Ends = PollerState → PollerState → Own → Type 0
-
--- as `RoundEnded` says it of a round that was not refused
-abbrev pub EndsWell : (ℕ → Type 0) → (Unaccepted → Type 0) → ℕ → Ends
-EndsWell tells gave_none limit p q own =
-    (answer : Result (Unit {0}) ServerFault) × IsOk answer × RoundEnded answer tells gave_none limit p q own
-
--- A poller's thread made a round, after a look at the flag that stops openings
-pub record RoundMade (said : Bool → Type 0) (p q : PollerState) (a b : Own) : Type 0 where
-  pub begun : PollerState
-  pub asked : Asked said p begun
-  pub round : RoundDone begun q a b
-  pub most : q.most ≡ begun.most
-  pub listens : ListenerKept begun q
-  pub took : NoTicketTaken a b
-
--- a round that was not refused: `ends` is what is known of its end, unless the hand had no room, and nothing was done
-pub record RoundOver (said : Bool → Type 0) (ends : Ends) (p q : PollerState) (a b : Own) : Type 0 where
-  pub made : RoundMade said p q a b
-  pub ended : (EndedEarly (length q.table) a × NoRound made.begun q a b) ⊎ ends made.begun q b
-
--- such a round, and what came after it
-pub record RoundAnd (said : Bool → Type 0) (ends : Ends) (After : PollerState → PollerState → Own → Own → Type 0)
-    (p q : PollerState) (a b : Own) : Type 0 where
-  pub polled : PollerState
-  pub between : Own
-  pub round : RoundOver said ends p polled a between
-  pub turns : After polled q between b
-
--- a step of a poller's thread: a round, and the turns after it
-abbrev pub StepMade : (Bool → Type 0) → Ends → PollerState → PollerState → Own → Own → Type 0
-StepMade said ends p q a b = RoundAnd said ends TurnsAfter p q a b
-
 -- the last step was not begun
 pub record NotBegun (mark : ℕ) (why : Why) (p q : PollerState) (a b : Own) : Type 0 where
   pub reason : (why ≡ FaultFound mark) ⊎ ((why ≡ PollerOver) × (p.over ≡ true))
   pub poller : q ≡ p
   pub own : b ≡ a
 
--- the last round was refused, with the fault that the thread met
-pub record RoundCut (said : Bool → Type 0) (why : Why) (p q : PollerState) (a b : Own) : Type 0 where
-  pub fault : ServerFault
-  pub reason : why ≡ Met fault
-  pub made : RoundMade said p q a b
-  pub refused : RoundRefused fault made.begun q a b
+-- What is known of the thread's looks: at the flag what each was `said` to find, at the clock which seconds it `tells`, and of
+-- accept(2) why it `gave_none`. And the idle limit
+module _ (said : Bool → Type 0) (tells : ℕ → Type 0) (gave_none : Unaccepted → Type 0) (limit : ℕ) where
+  -- a poller's thread made a round, after a look at the flag that stops openings
+  pub record RoundMade (p q : PollerState) (a b : Own) : Type 0 where
+    pub begun : PollerState
+    pub asked : Asked said p begun
+    pub round : RoundDone begun q a b
+    pub keeps : RoundKeeps limit begun q a b
+    pub waits : EndedEarly (length q.table) a ⊎ WaitedAsMay limit begun q a
 
--- the last step of a poller's thread, by why it ended
-abbrev pub StepCut : (Bool → Type 0) → Ends → ℕ → Why → PollerState → PollerState → Own → Own → Type 0
-StepCut said ends mark why p q a b =
-    NotBegun mark why p q a b ⊎ (RoundCut said why p q a b ⊎ RoundAnd said ends (TurnsCut mark why) p q a b)
+  -- such a round, which was not refused: the hand had no room, and nothing was done, or the seat is not worn at its end
+  pub record RoundOver (p q : PollerState) (a b : Own) : Type 0 where
+    pub made : RoundMade p q a b
+    pub ended : (EndedEarly (length q.table) a × NoRound made.begun q a b)
+        ⊎ ((IsWorn b.seat → ⊥) × RoundEnded tells gave_none limit made.begun q b)
 
--- this many steps, one after the other
-abbrev pub StepsMade : (Bool → Type 0) → Ends → ℕ → PollerState → PollerState → Own → Own → Type 0
-StepsMade said ends zero p q a b = (q ≡ p) × (b ≡ a)
-StepsMade said ends (suc steps) p q a b = (r : PollerState) × (c : Own) × StepsMade said ends steps p r a c × StepMade said ends r q c b
+  -- such a round, and what came after it
+  pub record RoundAnd (After : PollerState → PollerState → Own → Own → Type 0) (p q : PollerState) (a b : Own) : Type 0 where
+    pub polled : PollerState
+    pub between : Own
+    pub round : RoundOver p polled a between
+    pub turns : After polled q between b
 
--- any number of steps, and then the last one
-abbrev pub LoopMade : (Bool → Type 0) → Ends → ℕ → Why → PollerState → PollerState → Own → Own → Type 0
-LoopMade said ends mark why p q a b =
-    (steps : ℕ) × (r : PollerState) × (c : Own) × StepsMade said ends steps p r a c × StepCut said ends mark why r q c b
+  -- a step of a poller's thread: a round, and the turns after it
+  abbrev pub StepMade : PollerState → PollerState → Own → Own → Type 0
+  StepMade p q a b = RoundAnd TurnsAfter p q a b
 
--- all of a thread's steps, from the second that its clock showed as it began: its sweeps are counted from then
-abbrev pub RunMade : (Bool → Type 0) → Ends → (ℕ → Type 0) → ℕ → Why → PollerState → Own → Own → Type 0
-RunMade said ends tells mark why p a b = (second : ℕ) × (q : PollerState) × tells second
-    × LoopMade said ends mark why (record p { swept = second }) q a b
+  -- the last round was refused, with the fault that the thread met
+  pub record RoundCut (why : Why) (p q : PollerState) (a b : Own) : Type 0 where
+    pub fault : ServerFault
+    pub reason : why ≡ Met fault
+    pub made : RoundMade p q a b
+    pub refused : RoundRefused fault made.begun q a b
 
--- a note was posted, or a client opened, lost with its slot or dropped, or a turn made
-abbrev pub IsPollerAct : ℕ → SeatAct → Type 0
-IsPollerAct words act = IsPost act
-    ⊎ (IsTry act ⊎ ((answer : Result Worked ServerFault) × IsTurnOf words act.ticket.slot answer act.exchanges))
+  -- the last step of a poller's thread, by why it ended
+  abbrev pub StepCut : ℕ → Why → PollerState → PollerState → Own → Own → Type 0
+  StepCut mark why p q a b = NotBegun mark why p q a b ⊎ (RoundCut why p q a b ⊎ RoundAnd (TurnsCut mark why) p q a b)
 
--- the connection that these exchanges opened, if they did
-abbrev pub opened_by : List Exchange → Ticket → List Ticket
-opened_by (Adopted found ∷ more) ticket = ticket ∷ []
-opened_by exchanges ticket = []
+  -- any number of steps, and then the last one
+  abbrev pub LoopMade : ℕ → Why → PollerState → PollerState → Own → Own → Type 0
+  LoopMade mark why p q a b =
+      (steps : ℕ) × (r : PollerState) × (c : Own) × Repeated StepMade steps p r a c × StepCut mark why r q c b
 
-abbrev pub openings_of : List SeatAct → List Ticket
-openings_of acts = flat_map (λ (act : SeatAct). opened_by act.exchanges act.ticket) acts
-
--- What a poller's seat did is these acts, in order. Each ticket that its thread was to put before, or that the acts
--- made, was run by the thread itself or is put or in hand, once. No ticket was taken out of the queue. Each free slot
--- that was taken out of its queue, that the thread was to give before, or that its turns freed, was opened, or is no
--- longer used, or is given or in hand
-pub record PollerRan (old new : Own) : Type 0 where
-  pub acts : List SeatAct
-  pub each : All (IsPollerAct old.seat.table.words) acts
-  pub made : ActsMade acts old.seat new.seat
-  pub ran : List Run
-  pub lost : List ℕ
-  pub tickets : (t : Ticket) → times_of t (tickets_out new) + times_of t (tickets_of ran)
-      ≡ times_of t (tickets_out old) + times_of t (due_of acts)
-  pub took : NoTicketTaken old new
-  pub slots : (slot : ℕ) → times slot (slots_in new) + (times slot (slots_out old) + times slot (freed ran))
-      ≡ times slot (slots_in old) + (times slot (slots_out new) + (at_slot slot (openings_of acts) + times slot lost))
+  -- all of a thread's steps, from the second that its clock showed as it began: its sweeps are counted from then
+  abbrev pub RunMade : ℕ → Why → PollerState → Own → Own → Type 0
+  RunMade mark why p a b = (second : ℕ) × (q : PollerState) × tells second × LoopMade mark why (record p { swept = second }) q a b
 
 -- of a worker's ends of the pollers' queues, in order, only the end of this poller's may have changed
 abbrev pub OthersKept : ℕ → List (EndState ℕ) → List (EndState ℕ) → Type 0

@@ -5,7 +5,7 @@ use Rattle.ready.specs.Steps.{EndState}
 use Rattle.common.specs.declared.shared.Own.{Own}
 use Rattle.rounds.specs.Pollers.{PollerState}
 use Rattle.common.specs.declared.front.Unaccepted.{Unaccepted}
-use Rattle.threads.specs.{declared.{context.ThreadEnd.ThreadEnd, faults.Few.Few, running.Served.Served, working.Owned.Owned}, Divided.{HasOneOfEach, IsEndOf, OfFirst, ends_of, numbered}, Loops.{EndsWell, PollerRan, RunMade, WorkerEnded, fault_by}}
+use Rattle.threads.specs.{declared.{context.ThreadEnd.ThreadEnd, faults.Few.Few, running.Served.Served, working.Owned.Owned}, Divided.{HasOneOfEach, IsEndOf, OfFirst, ends_of, numbered}, Loops.{RunMade, WorkerEnded, fault_by}}
 use Rattle.sizes.specs.declared.faults.ServerFault.{ServerFault, TheVariants.{Threads}}
 
 -- what a poller's thread begins with
@@ -45,8 +45,7 @@ pub record PollerRuns (said : Bool → Type 0) (tells : ℕ → Type 0) (gave_no
     (part : PollerPart) (end : ThreadEnd) : Type 0 where
   pub number_is : end.number ≡ part.number
   pub own : Own
-  pub made : RunMade said (EndsWell tells gave_none limit) tells mark end.why part.poller part.own own
-  pub ran : PollerRan part.own own
+  pub made : RunMade said tells gave_none limit mark end.why part.poller part.own own
 
 -- The parts that have threads of their own ran to their ends, in order: all, or if a thread could not be started, the first
 abbrev pub RanToEnds : {P : Type 0} → (P → ThreadEnd → Type 0) → Option Few → List P → List ThreadEnd → Type 0

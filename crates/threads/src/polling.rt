@@ -4,7 +4,7 @@ ghost use Rattle.claims.specs.Seats.{HoldsNothing};
 ghost use Rattle.rounds.specs.{Episodes.no_drops, Pollers.HasOpenedAll};
 ghost use Rattle.turns.specs.Turns.{NoOwnTurn};
 ghost use Rattle.common.specs.Posts.{OnlyWorn};
-ghost use Rattle.threads.specs.{Loops.{AllWoken, Asked, EndsWell, IsTold, LoopMade, OwnRan, PollerRan, RoundCut, RoundOver, RunMade, StepCut, StepMade, TurnsAfter, TurnsCut}};
+ghost use Rattle.threads.specs.{Loops.{AllWoken, Asked, IsTold, LoopMade, OnlyMarked, OwnRan, RoundCut, RoundOver, RunMade, StepCut, StepMade, TurnsAfter, TurnsCut}};
 
 use crate::context::{Context, StopFlag, Told};
 use crate::ending::{Ended, NoFault, end_if_over};
@@ -34,13 +34,10 @@ impl<F: Front> PollerThread<F> {
         &mut self,
         context: &'c Context<'_, G, C, R, S>,
     ) -> Told<'c>
-        ensures made { RunMade (S.said context.now.is_stopped.now)
-            (EndsWell (C.tells context.now.timing.clock.now) F.gave_none context.now.timing.limit)
-            (C.tells context.now.timing.clock.now) context.now.ending.now result.why
-            self.old.poller self.old.own self.new.own }
+        ensures made { RunMade (S.said context.now.is_stopped.now) (C.tells context.now.timing.clock.now) F.gave_none
+            context.now.timing.limit context.now.ending.now result.why self.old.poller self.old.own self.new.own }
         ensures told { IsTold context.now.ending.now self.old.number result.why result.recorded result.closed }
         ensures number { result.number ≡ self.old.number }
-        ensures ran { PollerRan self.old.own self.new.own }
     {
         let number = self.number;
         self.poller.begin_at(context.timing.moment().second);
@@ -71,10 +68,9 @@ impl<F: Front> PollerThread<F> {
         &mut self,
         context: &Context<'_, G, C, R, S>,
     ) -> Ended
-        ensures made { LoopMade (S.said context.now.is_stopped.now)
-            (EndsWell (C.tells context.now.timing.clock.now) F.gave_none context.now.timing.limit)
-            context.now.ending.now result.why self.old.poller self.new.poller self.old.own self.new.own }
-        ensures ran { PollerRan self.old.own self.new.own }
+        ensures made { LoopMade (S.said context.now.is_stopped.now) (C.tells context.now.timing.clock.now) F.gave_none
+            context.now.timing.limit context.now.ending.now result.why
+            self.old.poller self.new.poller self.old.own self.new.own }
     {
         for _round in context.rt.forever() {
             if let Err(ended) = self.step(context) {
@@ -87,18 +83,15 @@ impl<F: Front> PollerThread<F> {
     /// One step of the thread: a round, and then the turns of the tickets that stay with this thread, 32 at most.
     /// Refused if the thread ends: the poller is over, a fault was recorded before the round or before a turn,
     /// or this step met a fault.
-    #[tactic(auto, using(crate::proofs::Loops::ran_none))]
     fn step<G: Gate, C: Clock, R: Wait + Log, S: StopFlag>(
         &mut self,
         context: &Context<'_, G, C, R, S>,
     ) -> Result<(), Ended>
-        ensures made { OnOk result (StepMade (S.said context.now.is_stopped.now)
-            (EndsWell (C.tells context.now.timing.clock.now) F.gave_none context.now.timing.limit)
+        ensures made { OnOk result (StepMade (S.said context.now.is_stopped.now) (C.tells context.now.timing.clock.now)
+            F.gave_none context.now.timing.limit self.old.poller self.new.poller self.old.own self.new.own) }
+        ensures cut { IfErr result (λ ended. StepCut (S.said context.now.is_stopped.now) (C.tells context.now.timing.clock.now)
+            F.gave_none context.now.timing.limit context.now.ending.now ended.why
             self.old.poller self.new.poller self.old.own self.new.own) }
-        ensures cut { IfErr result (λ ended. StepCut (S.said context.now.is_stopped.now)
-            (EndsWell (C.tells context.now.timing.clock.now) F.gave_none context.now.timing.limit)
-            context.now.ending.now ended.why self.old.poller self.new.poller self.old.own self.new.own) }
-        ensures ran { PollerRan self.old.own self.new.own }
     {
         let seen = match context.ending.look() {
             Ok(seen) => seen,
@@ -131,11 +124,10 @@ impl<F: Front> PollerThread<F> {
         context: &Context<'_, G, C, R, S>,
         _seen: NoFault,
     ) -> Result<(), Ended>
-        ensures made { OnOk result (RoundOver (S.said context.now.is_stopped.now)
-            (EndsWell (C.tells context.now.timing.clock.now) F.gave_none context.now.timing.limit)
-            self.old.poller self.new.poller self.old.own self.new.own) }
-        ensures cut { IfErr result (λ ended. RoundCut (S.said context.now.is_stopped.now) ended.why self.old.poller self.new.poller
-            self.old.own self.new.own) }
+        ensures made { OnOk result (RoundOver (S.said context.now.is_stopped.now) (C.tells context.now.timing.clock.now)
+            F.gave_none context.now.timing.limit self.old.poller self.new.poller self.old.own self.new.own) }
+        ensures cut { IfErr result (λ ended. RoundCut (S.said context.now.is_stopped.now) (C.tells context.now.timing.clock.now)
+            F.gave_none context.now.timing.limit ended.why self.old.poller self.new.poller self.old.own self.new.own) }
     {
         self.stop_if_asked(context);
         let polled = poller_round(
@@ -181,7 +173,6 @@ impl<F: Front> PollerThread<F> {
 
     /// Runs the turn of the oldest ticket in hand. None if there is no ticket, or no room in hand for a slot. If the
     /// turn ends the connection, and this poller has opened all that it may, the slot's poller is woken.
-    #[tactic(auto, using(crate::proofs::Loops::own_ran))]
     fn turn<G: Gate, C: Clock, R: Wait + Log, S>(
         &mut self,
         context: &Context<'_, G, C, R, S>,
@@ -190,7 +181,7 @@ impl<F: Front> PollerThread<F> {
         ensures ran { OwnRan result self.old.own self.new.own }
         ensures none { result ≡ Ok None → NoOwnTurn self.old.own }
         ensures worn { IfErr result (λ fault. OnlyWorn fault self.new.own.seat) }
-        ensures poller { self.new.poller ≡ record self.old.poller { heavy = self.new.poller.heavy } }
+        ensures poller { OnlyMarked result self.old.own self.old.poller self.new.poller }
         ensures woken { result ≡ Ok (Some Worked.Ended) → HasOpenedAll self.old.poller
             → IfSome (slice_get self.old.own.hand.tickets 0)
             (λ ticket. F.woke (arc_value self.old.shared).waker ticket.slot) }

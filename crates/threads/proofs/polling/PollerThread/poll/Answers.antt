@@ -9,7 +9,7 @@ returns-clause-cut g c =
     rw (← asked.own) (record {
       fault = c.in-Err.fault;
       reason = c.met.ensures;
-      made = round_made asked.asked polled.made.round polled.keeps;
+      made = round_made _ _ asked.asked polled.made.round polled.keeps (sym polled.between.sized) polled.waits;
       refused = polled.refused;
     })
 
@@ -17,4 +17,5 @@ pub returns-in-Ok-clause-made : goal.returns-in-Ok-clause-made
 returns-in-Ok-clause-made g c =
     let asked = c.stop_if_asked.ensures in
     let polled = c.in-Ok.ensures in
-    rw (← asked.own) (round_over _ _ _ (round_made asked.asked polled.made.round polled.keeps) (sym polled.between.sized) polled.early polled.ended)
+    let same = sym polled.between.sized in
+    rw (← asked.own) (round_over _ _ (round_made _ _ asked.asked polled.made.round polled.keeps same polled.waits) same polled.early polled.ended)
