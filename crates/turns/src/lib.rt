@@ -12,7 +12,8 @@
 //!   [`Moves`](common::Moves)), and makes these in the order of its program (`acts_of` of `specs/Turns.antt`). Its gate
 //!   hears of it by one of these alone ([`Gated::play`](common::Gated::play)): no body here knows that `G` is a gate.
 //! - A place is reached by these acts alone (`Places`). What a turn found there, how it played that, and what it put
-//!   back or closed is said of its acts (`Handles` and `PlaysAt` of `specs/Turns.antt`).
+//!   back or closed is said of its acts (`Handles` and `PlaysAt` of `specs/Turns.antt`). It plays a connection only if
+//!   both the slot and the generation are the ticket's (`run`: `own`).
 //! - The connection that is put back or closed is the one that was taken out (`Visit`, which cannot be dropped). Its
 //!   bytes, or its end, are counted at its slot (`counted`). What is put back after Quiet has two wires that hold
 //!   nothing back (`rest`: `done`).
