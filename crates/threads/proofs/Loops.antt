@@ -1,11 +1,11 @@
 -- What the calls of a thread's loop do with the tickets that it is obliged to put.
-use Rattle.std.{proofs.{Common.{◌≡◌, ◌≢◌, ℕ, zero, suc, ◌+◌, ◌-◌, ◌<◌, ◌≤◌, Bool, true, false, cond, List, [], ◌∷◌, ◌++◌, drop, length, length-append, length-set, sym, ◌∙◌, refl, ap, add-one, arith, inl, inr, append_assoc}, lemmas.{List.{get_or-set_same, map-append, append-nil, set-set, Concat.flat_map-append, Elements.{All-append}, Sums.{sum_by-append, sum_by-set}}, Option.{get_or_from_slice_get, slice_get-get_or, slice_get_read, slice_get_within}, Bool.{ltb-true, ltb-false}}, Math.Seq.map-set_same}, specs.{List.{All, slice_set}, Prelude.{◌==◌, ◌&&◌, ◌↔◌, Option, Some, None, Result, Ok, Err, IsOk, slice_get, map, nat_lt, if◌then◌else◌, ◌⊎◌}}}
+use Rattle.std.{proofs.{Common.{◌≡◌, ◌≢◌, ℕ, zero, suc, ◌+◌, ◌-◌, ◌<◌, ◌≤◌, Bool, true, false, cond, List, [], ◌∷◌, ◌++◌, length, length-set, sym, ◌∙◌, refl, ap, add-one, arith, inl, inr, append_assoc}, lemmas.{List.{get_or-set_same, map-append, append-nil, set-set, Concat.flat_map-append, Elements.All-append, Sums.{sum_by-append, sum_by-set}}, Option.{get_or_from_slice_get, slice_get-get_or, slice_get_read, slice_get_within}, Bool.{ltb-true, ltb-false}}, Math.Seq.map-set_same}, specs.{List.slice_set, Prelude.{◌==◌, ◌&&◌, ◌↔◌, Option, Some, None, Result, Ok, Err, IsOk, slice_get, map, nat_lt, if◌then◌else◌, ◌⊎◌}}}
 use Rattle.claims.specs.{declared.view.Exchange.Exchange, Views.minted_by, Seats.SeatState}
-use Rattle.ready.specs.{declared.{history.History.History, ticket.Ticket.Ticket}, Steps.QueueEnd}
+use Rattle.ready.specs.declared.{history.History.History, ticket.Ticket.Ticket}
 use Rattle.sizes.specs.{declared.faults.ServerFault.{ServerFault, TheVariants.{Poll, Worn}}, Limits.own_turns}
 use Rattle.common.specs.{declared.{front.Unaccepted.Unaccepted, shared.Own.Own}, Acts.Made, Hands.HandState, Outgoing.{Inserted, outgoing, tickets_out, slots_out}, Posts.IsWorn}
-use Rattle.turns.specs.{declared.worker.{HandPut.HandPut, Worked.Worked}, Turns.{TicketsKept, SlotsKept, TurnMade, WorkerTurn, OldestRan, OwnTurn, Handled, Playing, NoOwnTurn, marks_after}}
-use Rattle.threads.{proofs.Divided.End, specs.{Divided.ends_of, declared.{ending.Why.{Why, TheVariants.FaultFound}, working.Owned.Owned}, Loops.{faults_by, times_of, freed, Run, acts_of, due_from, fault_in, faults_of, IsRun, TurnsMade, takes_of, times_by, times_given, SlotsGiven, Changes, OthersKept, OneRan, tickets_in, Took, WorkerMayEnd, WorkerEnded, WorkerRan, OldestTurn, OnlyMarked, OwnRan, OwnTurnMade, SharedAndRan, TurnsAfter, Asked, RoundMade, RoundOver}}}
+use Rattle.turns.specs.{declared.worker.{HandPut.HandPut, Worked.Worked}, Turns.{TicketsKept, SlotsKept, TurnMade, WorkerTurn, Handled, Playing, NoOwnTurn, marks_after}}
+use Rattle.threads.{proofs.Divided.End, specs.{Divided.ends_of, declared.{ending.Why.{Why, TheVariants.FaultFound}, working.Owned.Owned}, Loops.{faults_by, times_of, freed, Run, acts_of, due_from, fault_in, faults_of, IsRun, TurnsMade, takes_of, times_by, times_given, SlotsGiven, Changes, OthersKept, OneRan, tickets_in, Took, WorkerMayEnd, WorkerEnded, WorkerRan, OnlyMarked, OwnTurnMade, SharedAndRan, TurnsAfter, Asked, RoundMade, RoundOver}}}
 use Rattle.rounds.{specs.{Pollers.PollerState, Rounds.{EndedEarly, NotBegun, RoundDone, RoundEnded, RoundKeeps, WaitedAsMay}, Acts.made_by, Openings.times}, proofs.Acts.{all_none, all_one, acts_none, acts_one, acts_both, due-append}}
 use Rattle.turns.specs.declared.worker.Worked.TheVariants as worked
 

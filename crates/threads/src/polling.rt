@@ -1,5 +1,5 @@
 //! The steps of a poller's thread.
-ghost use Rattle.std.specs.{Prelude.{◌≡◌, ◌⊎◌, ℕ, length, slice_get, Ok, Some, None, OnOk, IfErr, IfSome}, Arc.arc_value};
+ghost use Rattle.std.specs.{Prelude.{◌≡◌, ◌⊎◌, length, slice_get, Ok, Some, None, OnOk, IfErr, IfSome}, Arc.arc_value};
 ghost use Rattle.claims.specs.Seats.{HoldsNothing};
 ghost use Rattle.rounds.specs.{Episodes.no_drops, Pollers.HasOpenedAll};
 ghost use Rattle.turns.specs.Turns.{NoOwnTurn};

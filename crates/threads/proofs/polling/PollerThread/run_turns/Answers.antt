@@ -1,4 +1,4 @@
-use Rattle.std.proofs.Common.{ap, arith, refl, rules, subst}
+use Rattle.std.proofs.Common.{ap, arith, refl, subst}
 use Rattle.rounds.specs.Pollers.{PollerState}
 use Rattle.turns.specs.Shares.{TicketsShared}
 use Rattle.threads.proofs.Loops.{marked_none, one_more, ran_fewer}
