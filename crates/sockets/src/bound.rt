@@ -1,5 +1,5 @@
 //! The listening socket.
-ghost use Rattle.std.specs.{Prelude.{◌≡◌, ◌↔◌, ◌<◌, IfOk, IfErr, IfSome, IsTrue}, IoError.error_kind, Net.Socket.socket_port, declared.io.ErrorKind.TheVariants.PermissionDenied};
+ghost use Rattle.std.specs.{Prelude.{◌≡◌, ◌↔◌, ◌<◌, IfOk, IfErr, IfNone, IfSome, IsTrue}, IoError.error_kind, Net.Socket.socket_port, declared.io.ErrorKind.TheVariants.PermissionDenied};
 ghost use Rattle.sockets.specs.Fronts.{Agrees, IsAt, IsPassed};
 
 use crate::passed::Passed;
@@ -47,12 +47,13 @@ impl<L> Bound<L> {
 ///
 /// Refuses with `Listen` if the passed one is elsewhere, or if the system refuses. The cause was then logged, at level
 /// error.
-pub fn bind<R: Net + Log>(
+pub fn bind<R: Net + Log, L: Listening + Drop>(
     rt: &R,
     settings: &Settings,
-    passed: Option<Passed>,
-) -> Result<Bound, ServerFault>
+    passed: Option<Passed<L>>,
+) -> Result<Bound<L>, ServerFault>
     ensures asked { IfOk result (λ bound. IsAt settings.now.listen bound.asked) }
+    ensures listens { IfNone passed (IfOk result (λ bound. L.listens bound.asked bound.listener)) }
     ensures passed { IfSome passed (λ given. IfOk result (λ bound. IsPassed given settings.now.listen bound)) }
     ensures refused { IfErr result (λ fault. fault ≡ ServerFault.Listen) }
 {
@@ -63,7 +64,11 @@ pub fn bind<R: Net + Log>(
 }
 
 /// A passed socket, if it is where the settings ask for one.
-fn adopt<R: Log>(rt: &R, listen: Address, passed: Passed) -> Result<Bound, ServerFault>
+fn adopt<R: Log, L: Drop>(
+    rt: &R,
+    listen: Address,
+    passed: Passed<L>,
+) -> Result<Bound<L>, ServerFault>
     ensures asked { IfOk result (λ bound. IsAt listen bound.asked) }
     ensures passed { IfOk result (λ bound. IsPassed passed listen bound) }
     ensures refused { IfErr result (λ fault. fault ≡ ServerFault.Listen) }
@@ -87,8 +92,12 @@ fn agrees(listen: Address, address: SocketAddrV4) -> bool
     address.ip().octets() == listen.0 && (listen.1 == 0 || address.port() == listen.1)
 }
 
-fn listen_at<R: Net + Log>(rt: &R, address: SocketAddr) -> Result<Bound, ServerFault>
+fn listen_at<R: Net + Log, L: Listening + Drop>(
+    rt: &R,
+    address: SocketAddr,
+) -> Result<Bound<L>, ServerFault>
     ensures asked { IfOk result (λ bound. bound.asked ≡ address) }
+    ensures listens { IfOk result (λ bound. L.listens address bound.listener) }
     ensures refused { IfErr result (λ fault. fault ≡ ServerFault.Listen) }
 {
     match listen(rt, address) {
@@ -134,7 +143,7 @@ fn listen<R: Net, L: Listening + Drop>(rt: &R, asked: SocketAddr) -> io::Result<
 
 /// A socket that the system was asked to make listen at an address. Only the system knows at which address it listens,
 /// so the trait leaves that open.
-trait Listening: Sized {
+pub trait Listening: Sized {
     ghost use Rattle.std.specs.declared.net.SocketAddr.{SocketAddr};
 
     // `listens`: what the system makes when asked to. `told`: the system says that it listens at this address.

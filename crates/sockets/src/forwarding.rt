@@ -2,6 +2,7 @@
 ghost use Rattle.std.specs.Prelude.{◌≡◌};
 ghost use Rattle.sockets.specs.{Fronts.IsAt, Wires.unlimited};
 
+use mio::Registry;
 use mio::net::{TcpListener, TcpStream};
 use settings::Settings;
 use std::io;
@@ -63,7 +64,7 @@ impl Patience {
 /// A handle that starts and accepts connections. A thread can be started with a front that needs only this, but not
 /// with `Net`. The trait leaves open what the system does.
 pub trait Dial {
-    ghost use Rattle.std.specs.{Prelude.IfOk, declared.net.SocketAddr.SocketAddr};
+    ghost use Rattle.std.specs.{Prelude.{IfErr, IfOk}, declared.{io.Error.Error, net.SocketAddr.SocketAddr}};
     ghost use Rattle.mio.specs.declared.net.stream.TcpStream.{TcpStream};
 
     // This connection was started to this address, or accepted from it.
@@ -71,13 +72,24 @@ pub trait Dial {
 
     ghost accepted: { SocketAddr → TcpStream → Type 0 };
 
+    // The system refused with this error: to start a connection, or to give one.
+    ghost undialled: { Error → Type 0 };
+
+    ghost unaccepted: { Error → Type 0 };
+
     /// Starts a connection to an address (socket(2), connect(2)).
     fn dial(&self, address: SocketAddr) -> io::Result<TcpStream>
-        ensures { IfOk result (dialled address) };
+        ensures dialled { IfOk result (dialled address) }
+        ensures refused { IfErr result undialled };
 
     /// Accepts the next connection that waits (accept(2)). Gives its client's address, too.
     fn accept(&self, listener: &TcpListener) -> io::Result<(TcpStream, SocketAddr)>
-        ensures { IfOk result (λ made. accepted made.1 made.0) };
+        ensures accepted { IfOk result (λ made. accepted made.1 made.0) }
+        ensures refused { IfErr result unaccepted };
+
+    /// Fails if the process cannot have two descriptors more: those of a client and its target.
+    fn look_for_two(&self, registry: &Registry) -> io::Result<()>
+        ensures { IfErr result unaccepted };
 }
 
 impl<R: Net> Dial for R {
@@ -85,11 +97,21 @@ impl<R: Net> Dial for R {
 
     ghost accepted = { λ _ _. Unit {0} };
 
+    ghost undialled = { λ _. Unit {0} };
+
+    ghost unaccepted = { λ _. Unit {0} };
+
     fn dial(&self, address: SocketAddr) -> io::Result<TcpStream> {
         TcpStream::connect(self, address)
     }
 
     fn accept(&self, listener: &TcpListener) -> io::Result<(TcpStream, SocketAddr)> {
         listener.accept()
+    }
+
+    fn look_for_two(&self, registry: &Registry) -> io::Result<()> {
+        let _client = registry.try_clone()?;
+        let _target = registry.try_clone()?;
+        Ok(())
     }
 }

@@ -1,5 +1,5 @@
 //! A poller's front over epoll(7): it waits, accepts, connects and registers.
-ghost use Rattle.std.specs.{Prelude.{◌≡◌, ◌≢◌, ◌↔◌, ◌⊎◌, IsTrue, if◌then◌else◌, ◌+◌, ◌-◌, ◌<◌, ◌≤◌, All, [], true, false, Some, None, IfOk, OnOk, IfErr, OnErr, IsErrAnd, vec_len, vec_capacity}, Arc.arc_value, IoError.error_kind, declared.io.ErrorKind.TheVariants.Interrupted};
+ghost use Rattle.std.specs.{Prelude.{◌≡◌, ◌≢◌, ◌↔◌, ◌⊎◌, IsTrue, if◌then◌else◌, ◌+◌, ◌-◌, ◌<◌, ◌≤◌, All, [], true, false, Some, None, IfOk, OnOk, IfErr, OnErr, Err, IsErrAnd, vec_len, vec_capacity}, Arc.arc_value, IoError.error_kind, declared.io.{Error.Error, ErrorKind.TheVariants.Interrupted}};
 ghost use Rattle.sockets.specs.{Fronts.{longest_of, most_lacking, most_left, v4_of, IsFresh, LacksDescriptors, LacksMemory, IsLocal, IsRoute, MayTell, OnlyLacked, Polls, WaitEnded}, Wires.{SameButWatched, fresh_wire, patient, under, unlimited}};
 ghost use Rattle.common.specs.{Told.{millis_of, unaccepted_of, Waited}, declared.front.{Unaccepted.TheVariants.Starved, Unopened.TheVariants.{Connect, Register}}};
 ghost use Rattle.sizes.specs.Splits.{parts_of};
@@ -21,7 +21,7 @@ use libc::{EMFILE, ENOMEM, ENOSPC};
 use log::{Level, Log};
 use mio::net::TcpListener;
 use mio::unix::SourceFd;
-use mio::{Interest, Poll, Registry, Waker};
+use mio::{Interest, Poll, Waker};
 use readiness::{Reports, Told};
 use sizes::{LISTENER, MAX_BATCH, ServerFault, Split, WAKER};
 use std::alloc::{AllocError, Global};
@@ -258,6 +258,7 @@ impl<R: Dial, P: Reporter> Sockets<'_, R, P> {
         ensures dialled { IfOk result (λ target. R.dialled self.old.forwarding.target target.stream.stream) }
         ensures begun { IfOk result (λ target. target.socket ≡ patient self.old.forwarding.patience (fresh_wire false None)) }
         ensures refused { IfErr result (λ failed. failed.why ≡ Unopened.Connect) }
+        ensures short { OnErr result ((error : Error) × R.undialled error × (LacksMemory error → self.new.lacking ≡ most_lacking)) }
     {
         match self.rt.dial(self.forwarding.target) {
             Ok(stream) => {
@@ -355,13 +356,6 @@ fn lacks_memory(error: &io::Error) -> bool
     ensures { IsTrue result ↔ LacksMemory error.now }
 {
     matches!(error.raw_os_error(), Some(ENOMEM | ENOBUFS | ENOSPC))
-}
-
-/// Fails if the process cannot have two descriptors more: those of a client and its target.
-fn look_for_two(registry: &Registry) -> io::Result<()> {
-    let _client = registry.try_clone()?;
-    let _target = registry.try_clone()?;
-    Ok(())
 }
 
 /// The addresses of a client's connection, if targets are sent them. The system is asked for the one at this end.
@@ -465,6 +459,7 @@ impl<R: Dial, P: Reporter> Front for Sockets<'_, R, P> {
             × R.accepted peer client.stream.stream) }
         ensures lacking { 1 ≤ self.old.lacking
             → IsErrAnd result (λ error. unaccepted_of (error_kind error) ≡ Starved) }
+        ensures refused { IfErr result (λ error. R.unaccepted error ⊎ (1 ≤ self.old.lacking) ⊎ (self.old.seen.listens ≡ false)) }
         ensures none { IfErr result (λ _. Unit {0}) }
         ensures fewer { self.new ≡ record self.old { lacking = self.old.lacking - 1 } }
     {
@@ -475,7 +470,7 @@ impl<R: Dial, P: Reporter> Front for Sockets<'_, R, P> {
             return Err(io::Error::from(io::ErrorKind::WouldBlock));
         };
         if self.loads.is_short() {
-            look_for_two(self.waiter.poll.registry())?;
+            self.rt.look_for_two(self.waiter.poll.registry())?;
             self.loads.set_short(false);
         }
         let (stream, peer) = self.rt.accept(listener)?;
@@ -518,6 +513,8 @@ impl<R: Dial, P: Reporter> Front for Sockets<'_, R, P> {
         ensures route { IfOk result (λ opened. IsRoute self.old.forwarding.proxy client.old.socket.peer opened.route) }
         ensures told { IfOk result (λ opened. MayTell client.old.socket.peer opened.route) }
         ensures refused { IfErr result (λ why. (why ≡ Unopened.Connect) ⊎ (why ≡ Unopened.Register)) }
+        ensures short { result ≡ Err Unopened.Connect
+            → (error : Error) × R.undialled error × (LacksMemory error → self.new.lacking ≡ most_lacking) }
         ensures client { OnOk result (client.new.socket ≡ patient (unlimited self.old.forwarding.patience)
             (under client_token client.old.socket)) }
         ensures unopened { OnErr result (SameButWatched client.old.socket client.new.socket) }
