@@ -5,7 +5,7 @@ ghost use Rattle.ready.specs.Steps.{look_of, new_end, IsStill, PutOne, TookOne};
 use crate::idle::{EndNumber, IdleEnds};
 use crate::moment::{Empty, Full};
 use crate::rule::LineEnd;
-use crate::steps::{Drained, Put, Spent};
+use crate::steps::{Drained, Put, Source, Spent};
 use crate::ticket::Ticket;
 use std::alloc::AllocError;
 use std::sync::{Arc, Wait};
@@ -13,7 +13,8 @@ use std::sync::{Arc, Wait};
 #[derive(Drop)]
 pub(crate) struct End {
     pub(crate) ends: Arc<IdleEnds>,
-    pub(crate) line: LineEnd<Ticket>,
+    // Private, so that each ticket is put by `put`.
+    line: LineEnd<Ticket>,
     number: EndNumber,
     // The last `take` gave a ticket, and nothing has been put since.
     comes_back: bool,
@@ -57,6 +58,15 @@ impl End {
             return Ok(None);
         }
         Ok(Some(self.ends.put(rt, &mut self.line, ticket)?))
+    }
+
+    pub(crate) fn try_take(&mut self, rt: &impl Wait) -> Result<Ticket, Empty<Ticket>>
+        ensures taken { IfOk result (λ ticket. TookOne self.old.line.history ticket self.new.line.history) }
+        ensures empty { IfErr result (λ empty. empty ≡ look_of self.old.line) }
+        ensures unchanged { OnErr result (self.new.line ≡ self.old.line) }
+        ensures same { IsStill self.old.line self.new.line × (self.new.comes_back ≡ self.old.comes_back) }
+    {
+        self.line.look(rt)
     }
 
     pub(crate) fn take(&mut self, rt: &impl Wait) -> Result<Ticket, Drained<Empty<Ticket>>>

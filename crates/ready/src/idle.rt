@@ -1,7 +1,8 @@
 // Which ends sleep, and how they are woken.
-ghost use Rattle.std.specs.Prelude.{◌≡◌, ◌≢◌, ◌+◌, ◌<◌, IfErr, IfNone, IfOk, IfSome, IsSomeAnd, OnOk, slice_get, true, All};
+ghost use Rattle.std.specs.Prelude.{◌≡◌, ◌≢◌, ◌+◌, ◌<◌, ℕ, IfErr, IfNone, IfOk, IfSome, IsSomeAnd, OnErr, OnOk, slice_get, true, All};
+ghost use Rattle.ready.specs.Steps.{ReadBits, SetBits, ClearedBits, bit_of};
 
-use crate::flags::Unpark;
+use crate::flags::{Bits, Unpark};
 use crate::steps::{
     ClosedMark, Drained, IdleBits, InVain, MarkSeen, Put, Source, Spent, Wake, look, push, sleep,
     was_closed,
@@ -9,14 +10,15 @@ use crate::steps::{
 use std::array;
 use std::marker::Model;
 use std::sync::Wait;
+use std::sync::atomic::AtomicU32;
 use std::thread::Parker;
 use std::time::Duration;
 
 /// Up to 32 ends: which of them are idle, and what wakes each.
 #[derive(Drop)]
-pub struct IdleEnds<U = Parker> {
-    pub(crate) idle: IdleBits,
-    mark: ClosedMark,
+pub struct IdleEnds<U = Parker, W = AtomicU32> {
+    pub(crate) idle: IdleBits<W>,
+    mark: ClosedMark<W>,
     parkers: [U; 32],
 }
 
@@ -76,6 +78,15 @@ impl IdleEnds {
         (ends, EndNumbers { given: 0 })
     }
 
+    /// Rests, unless the queue is closed. No put ends that, since the end has not announced itself.
+    pub fn rest(&self, rt: &impl Wait, end: &EndNumber, time: Duration) {
+        if !self.mark.read(&mut ()).is_closed() {
+            self.parkers[end.number].park_timeout(rt, time);
+        }
+    }
+}
+
+impl<U: Unpark<Acts = ()>, W: Bits<Acts = ()>> IdleEnds<U, W> {
     /// Looks until something is found, and sleeps while there is nothing.
     pub fn take<L: Source>(
         &self,
@@ -86,6 +97,7 @@ impl IdleEnds {
         ensures found { IfOk result (λ it. L.found (L.state line.old) it (L.state line.new)) }
         ensures none { IfErr result (λ drained. (L.state line.new ≡ L.state line.old)
             × L.held_none line.new drained.nothing) }
+        ensures closed { OnErr result (W.did (ReadBits 1) self.now.mark.0 tt tt) }
     {
         for _look in rt.forever() {
             let vain = match look(rt, self.mark.read(&mut ()), line) {
@@ -116,6 +128,8 @@ impl IdleEnds {
         requires open { vain.0.closed ≢ true }
         ensures found { IfSome result (λ it. L.found (L.state line.old) it (L.state line.new)) }
         ensures none { IfNone result (L.state line.new ≡ L.state line.old) }
+        ensures announced { (before : ℕ) × W.did (SetBits (bit_of end.now.number) before) self.now.idle.0 tt tt }
+        ensures cleared { (before : ℕ) × W.did (ClearedBits (bit_of end.now.number) before) self.now.idle.0 tt tt }
     {
         match look(rt, self.idle.announce(&mut (), end, vain), line) {
             Ok((it, looked)) => {
@@ -132,15 +146,6 @@ impl IdleEnds {
         }
     }
 
-    /// Rests, unless the queue is closed. No put ends that, since the end has not announced itself.
-    pub fn rest(&self, rt: &impl Wait, end: &EndNumber, time: Duration) {
-        if !self.mark.read(&mut ()).is_closed() {
-            self.parkers[end.number].park_timeout(rt, time);
-        }
-    }
-}
-
-impl<U: Unpark> IdleEnds<U> {
     /// Puts an item, and then wakes the idle end with the lowest number for it, if any is idle. Who puts it does not
     /// come back for one.
     pub fn put<T, L: Put<T>>(

@@ -7,7 +7,7 @@ use crate::end::End;
 use crate::idle::{Closed, IdleEnds};
 use crate::moment::{Empty, Full};
 use crate::rule::LineEnd;
-use crate::steps::{AllBusy, Drained, Source};
+use crate::steps::{AllBusy, Drained};
 use crate::ticket::Ticket;
 use std::alloc::{AllocError, Global};
 use std::marker::Model;
@@ -66,7 +66,7 @@ impl ReadyQueue {
         ensures unchanged { OnErr result (self.new ≡ self.old) }
         ensures same { IsStill self.old self.new }
     {
-        self.end.line.look(rt)
+        self.end.try_take(rt)
     }
 
     /// Takes the ticket at the front, and sleeps until there is one. Refuses once this queue was found closed, and then

@@ -129,6 +129,7 @@ pub(crate) fn look<A, L: Source>(
 /// After a look in vain. Ok: the queue was closed before it.
 pub(crate) fn was_closed<N>(vain: InVain<MarkSeen, N>) -> Result<Drained<N>, InVain<MarkSeen, N>>
     ensures open { IfErr result (λ vain. vain.0.closed ≢ true) }
+    ensures closed { OnOk result (vain.0.closed ≡ true) }
     ensures nothing { IfOk result (λ drained. drained.nothing ≡ vain.1) }
 {
     let InVain(seen, nothing) = vain;
