@@ -6,7 +6,7 @@ use log::sink::{Discard, Lines, Memory};
 use log::{Level, Log, Logged};
 use settings::parse;
 use sizes::{MAX_BATCH, ServerFault, Split};
-use sockets::{Forwarding, Patience, SocketWire, Sockets, Stop, bind, open_all};
+use sockets::{Bound, Forwarding, Patience, SocketWire, Sockets, Stop, bind, open_all};
 use std::alloc::{AllocError, Global};
 use std::io::{self, ErrorKind, Write};
 use std::net::{SocketAddr, TcpListener, TcpStream};
@@ -29,7 +29,7 @@ fn fronts_to(
 ) -> Result<Fronts<'_>, ServerFault> {
     let text = b"listen = \"127.0.0.1:0\"\ntarget = \"127.0.0.1:1\"\n";
     let settings = parse(rt.alloc(), text).map_err(|_| ServerFault::NoMemory)?;
-    let bound = bind(rt, &settings, None)?;
+    let bound: Bound = bind(rt, &settings, None)?;
     let address = bound.text();
     let forwarding = Forwarding {
         target,
