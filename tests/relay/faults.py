@@ -196,16 +196,21 @@ def out_of_memory():
 
 
 # refuses register_told_as_memory: a client whose socket cannot be registered is logged as one that found no memory
+# refuses target_stays_open: a target whose socket cannot be registered is not closed
 @needs("cc")
 def an_opening_that_fails_keeps_its_slot():
-    # The first client's target finds no memory. The second client is the first socket after the waker and the listener.
-    relay = Relay(target(echo), preload={"CONNECTS_LACK": "1", "REGISTER_FAILS": "3"}, slots=1)
-    assert [relay.connect().recv(1), relay.connect().recv(1)] == [b"", b""]
-    client = relay.connect()
-    assert asked(client)
-    lines = [line for line in relay.end() if "] drop" in line or "] open" in line]
-    assert lines[:2] == ["[WARN  relayd] drop kind=connect", "[WARN  relayd] drop kind=register"]
-    assert lines[2:] == ["[INFO  relayd] open s=0 g=1"]
+    # The first client's target finds no memory. The second client is the first socket after the waker and the listener, and
+    # its target the next one.
+    for socket_number in "34":
+        relay = Relay(target(echo), preload={"CONNECTS_LACK": "1", "REGISTER_FAILS": socket_number}, slots=1)
+        before = relay.descriptors()
+        assert [relay.connect().recv(1), relay.connect().recv(1)] == [b"", b""]
+        assert until(lambda: relay.descriptors() == before)
+        client = relay.connect()
+        assert asked(client)
+        lines = [line for line in relay.end() if "] drop" in line or "] open" in line]
+        assert lines[:2] == ["[WARN  relayd] drop kind=connect", "[WARN  relayd] drop kind=register"]
+        assert lines[2:] == ["[INFO  relayd] open s=0 g=1"]
 
 
 # refuses system_memory_makes_none_wait: without the system's memory for a target, one client after the other is closed

@@ -95,10 +95,11 @@ def serves_65539_in_one_slot():
 
 
 # refuses fronts_in_reverse: the pollers have their fronts in reverse, so a worker wakes another poller than the slot's
+# refuses wakes_by_64_slots: the poller is woken that the slot would have if each had 64
 @by_time
 def wakes_the_poller_of_a_freed_slot():
-    relay = Relay(target(answer_and_read), slots=128, workers=2)
-    clients, slow = served(relay, 128), 0
+    relay = Relay(target(answer_and_read), slots=256, workers=2)
+    clients, slow = served(relay, 256), 0
     for _ in range(20):
         with clients.pop(0) as client:
             (waiting,) = asking(relay, 1)
