@@ -45,7 +45,9 @@ def needs_descriptors_for_one_connection():
         made += [(1, {"options": ["--stats-file", f"{folder}/relayd.prom"]})]
         for (more, how), inherited in itertools.product(made, [(), (file.fileno(),)]):
             needed, how = 8 + more + len(inherited), {"recorded": False, "inherited": inherited, "log": "off", **how}
-            ask_once(Relay(target(echo), descriptors=needed, **how))
+            relay = Relay(target(echo), descriptors=needed, stop_after=1, **how)
+            ask_once(relay)
+            relay.ended()
             limit = f"the limit is {needed - 1}, and {needed} are needed for one connection (ulimit -n)"
             assert Relay(descriptors=needed - 1, **how).ended(1) == [f"relayd: descriptors: {limit}"]
 

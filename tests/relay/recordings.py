@@ -70,6 +70,32 @@ def keeps_what_was_there():
         assert len(os.listdir(folder)) == 3
 
 
+# refuses two_relays_record_into_one_file: a relay records into the file into which another one does
+# refuses one_file_by_two_names: a file of a recording is told by its name alone
+def shares_its_file_with_nobody():
+    # Not by another name, either; and of many that begin at once one records.
+    with tempfile.TemporaryDirectory() as folder:
+        path = pathlib.Path(folder, "relay.record")
+        how = {"options": ["--record", str(path)], "stop_after": 1}
+        begun = [in_thread(lambda: Relay(target(echo), **how)) for _ in range(8)]
+        relays = [each.result(WAIT) for each in begun]
+        (relay,) = [each for each in relays if each.port]
+        for each in relays:
+            assert each is relay or each.ended(1)[-1] == "relayd: record: cannot be created"
+        other = pathlib.Path(folder, "other")
+        other.symlink_to(path)
+        os.link(path, f"{folder}/another.old")
+        for options in [path], [other], [f"{folder}/another.old"], [f"{folder}/another", "--record-size", "65536"]:
+            fault = having(Relay(1, options=["--record", *map(str, options)]).ended(1), "record: ")
+            assert fault[0].endswith(": another relay records into it (it is locked): each needs a FILE of its own")
+        for name in other, f"{folder}/another.old":
+            fault = having(Relay(1, options=["--record", str(path), "--stats-file", str(name)]).ended(1), "stats-file: ")
+            assert fault[0].endswith(": is a file of --record")
+        ask_once(relay)
+        relay.ended()
+        assert "is a run" in replay(path) and not os.path.exists(f"{path}.1")
+
+
 # refuses ten_recordings_are_kept: no recording is kept under a number over 10
 def keeps_9999_recordings():
     # The last name is free, and then none.
@@ -91,7 +117,8 @@ def keeps_9999_recordings():
 def keeps_the_end_of_what_it_did_in_two_parts():
     with tempfile.TemporaryDirectory() as folder:
         old, last = names = [f"{folder}/relay.record.old", f"{folder}/relay.record"]
-        pathlib.Path(names[0]).write_text("relayd recording 1 of an earlier run")
+        for name in names:
+            pathlib.Path(name).write_text(f"relayd recording 1: {name}")
         relay = Relay(target(echo), options=("--record", last, "--record-size", "65536"), stop_after=1000, slots=8, idle=60)
         are_over, most = threading.Event(), [0]
 
@@ -105,7 +132,8 @@ def keeps_the_end_of_what_it_did_in_two_parts():
         relay.ended()
         are_over.set()
         assert not looking.result(WAIT) and 30_000 < max(most) <= 32_768
-        assert sorted(os.listdir(folder)) == ["relay.record", "relay.record.old"]
+        assert sorted(os.listdir(folder)) == ["relay.record", "relay.record.1", "relay.record.2", "relay.record.old"]
+        assert [pathlib.Path(f"{last}.{n}").read_text() for n in (1, 2)] == [f"relayd recording 1: {name}" for name in names]
         parts = [pathlib.Path(name).read_text() for name in names]
         headers = [re.fullmatch(r"relayd recording 1 slots=8 .* from=(\d+)", part.partition("\n")[0]) for part in parts]
         greatest = max(int(line.split()[1]) for line in parts[0].splitlines()[1:])
@@ -167,6 +195,7 @@ def goes_on_behind_a_gap():
 
 
 # refuses lost_file_ends_the_relay: a relay that can begin no part ends
+# refuses other_file_is_replaced: where a part begins, another file that has its name by then is replaced
 def serves_on_where_no_part_can_be_begun():
     with tempfile.TemporaryDirectory() as folder:
         os.mkdir(f"{folder}/a")
@@ -177,6 +206,13 @@ def serves_on_where_no_part_can_be_begun():
             ask_once(relay)
         assert relay.ended() == ["[WARN  relayd] record: No such file or directory (os error 2), so the recording ends here"]
         assert os.path.getsize(f"{folder}/b/relay.record") <= 32_768 and "is a run" in replay(f"{folder}/b/relay.record")
+        relay = Relay(target(echo), options=("--record", f"{folder}/y", "--record-size", "65536"), stop_after=100, log="warn")
+        other = pathlib.Path(folder, "y.old")
+        other.write_text("?")
+        for _ in range(100):
+            ask_once(relay)
+        what = "another file has the name of one of its parts, so the recording ends here"
+        assert relay.ended() == [f"[WARN  relayd] record: {what}"] and other.read_text() == "?"
         for path, what in ("/dev/null", "is there, and is no file"), (f"{folder}/x", "is there, and is no recording"):
             pathlib.Path(folder, "x.old").write_text("?")
             fault = having(Relay(1, options=("--record", path, "--record-size", "65536")).ended(1), "record: ")

@@ -11,11 +11,11 @@ use log::{Level, Log};
 use records::Parts;
 use settings::EndOfLine;
 use std::alloc::{AllocError, Global};
-use std::fs::{self, File, OpenOptions};
+use std::fs::{self, File, Metadata, OpenFile, OpenOptions};
 use std::io::{self, BufWriter, ErrorKind, Read, Write};
 use std::mem;
 use std::os::fd::AsRawFd;
-use std::os::unix::fs::FileTypeExt;
+use std::os::unix::fs::{FileTypeExt, MetadataExt};
 use std::rt::Files;
 
 /// What every recording begins with.
@@ -38,16 +38,17 @@ pub(crate) enum Unmade {
     NoMemory,
 }
 
-/// What is at a path to record into.
+/// What is at a path to record into. A file there is locked (`hold`).
 #[derive(Drop)]
 pub(crate) enum Place<F> {
     Nothing,
-    Recording,
-    /// A pipe that somebody reads.
-    Pipe(F),
-    /// A file without bytes, or a device.
-    Other,
+    Recording(F),
+    /// A file without bytes, a device, or a pipe that somebody reads: it is written into as it is.
+    Open(F),
 }
+
+/// Which file it is: its device, and its number there (stat(2)).
+type FileId = (u64, u64);
 
 /// The file that is recorded into. With names it can be followed by others.
 #[derive(Drop)]
@@ -62,23 +63,37 @@ pub struct RecordFiles<R: Files> {
 struct Names {
     path: String,
     old: String,
+    /// The file before the last.
+    before: Option<FileId>,
 }
 
-impl<R: Files + Drop> Parts for RecordFiles<R> {
+impl<R: Files + Drop> Parts for RecordFiles<R>
+where
+    R::File: AsRawFd,
+{
     fn add(&mut self, bytes: &[u8]) -> io::Result<()> {
         self.file.write_all(bytes)
     }
 
-    /// The file becomes the one before the last, in place of the one that was (rename(2)). Without names there is no
-    /// next file.
+    /// The file becomes the one before the last, in place of the one that was (rename(2)). A file of another is left
+    /// where it is. Without names there is no next file.
     fn begin_next(&mut self) -> io::Result<()> {
         self.file.flush()?;
-        let Some(names) = &self.names else {
+        let Some(names) = &mut self.names else {
             return Err(io::Error::from(ErrorKind::Unsupported));
         };
+        let last = Some(id_of(&self.file.get_ref().metadata()?));
+        let found = id_at(&self.rt, names.path.as_str())?;
+        let old = id_at(&self.rt, names.old.as_str())?;
+        if found.is_some() && found != last || old.is_some() && old != names.before {
+            let what = "another file has the name of one of its parts";
+            return Err(io::Error::new(ErrorKind::AlreadyExists, what));
+        }
         fs::rename(&self.rt, names.path.as_str(), names.old.as_str())?;
         let file = how_to_open(false).open(&self.rt, names.path.as_str())?;
+        lock(&file);
         drop(mem::replace(self.file.get_mut(), file));
+        names.before = last;
         Ok(())
     }
 
@@ -100,9 +115,9 @@ impl From<AllocError> for Unmade {
 }
 
 /// What is at the path to record into, if one is given. Refuses with `Record`, and logs the cause, if nothing can be
-/// recorded there: it cannot be looked at, or is a file that is neither empty nor a recording, a pipe that nobody
-/// reads, a folder, or a link to nothing; or, for a recording `in_parts`, if it is no file by itself, or its second
-/// name is of anything but an empty file or a recording. Nothing is made or moved.
+/// recorded there: it cannot be looked at, or is a file that is neither empty nor a recording, or that another relay
+/// has locked, a pipe that nobody reads, a folder, or a link to nothing; or, for a recording `in_parts`, if it is no
+/// file by itself, or its second name is of anything but an empty file or a recording. Nothing is made or moved.
 pub(crate) fn find_place<R: AllocGlobal + Files>(
     rt: &R,
     log: &impl Log,
@@ -156,10 +171,11 @@ where
 }
 
 /// What follows the name of a recording in parts, in the name of the part before the last.
-const OLD: &str = ".old";
+pub(crate) const OLD: &str = ".old";
 
-/// Opens the file at a path to record into, if one is given, where this was found. Refuses with `Record`, and logs the
-/// cause, if it cannot be opened. Refuses with `NoMemory`.
+/// Opens the file at a path to record into, if one is given, where this was found. What an earlier run has left there,
+/// and at the second name, gets names of its own. Refuses with `Record`, and logs the cause, if it cannot be opened.
+/// Refuses with `NoMemory`.
 pub(crate) fn create<R: AllocGlobal + Files + Copy + Drop>(
     rt: &R,
     log: &impl Log,
@@ -167,6 +183,8 @@ pub(crate) fn create<R: AllocGlobal + Files + Copy + Drop>(
     place: Place<R::File>,
     in_parts: bool,
 ) -> Result<Option<RecordFiles<R>>, ProgramFault>
+where
+    R::File: AsRawFd,
     ensures { IfErr result (λ fault. status_of fault ≡ 1) }
 {
     let Some(path) = path else {
@@ -183,8 +201,8 @@ fn names_of(alloc: Global, path: &str, in_parts: bool) -> Result<Option<Names>, 
         return Ok(None);
     }
     let old = format!(in alloc; "{path}{OLD}")?;
-    let path = format!(in alloc; "{path}")?;
-    Ok(Some(Names { path, old }))
+    let (path, before) = (format!(in alloc; "{path}")?, None);
+    Ok(Some(Names { path, old, before }))
 }
 
 fn files_at<R: AllocGlobal + Files + Copy + Drop>(
@@ -193,8 +211,14 @@ fn files_at<R: AllocGlobal + Files + Copy + Drop>(
     path: &str,
     place: Place<R::File>,
     in_parts: bool,
-) -> Result<RecordFiles<R>, Unmade> {
+) -> Result<RecordFiles<R>, Unmade>
+where
+    R::File: AsRawFd,
+{
     let names = names_of(rt.alloc(), path, in_parts)?;
+    if let Some(names) = &names {
+        keep_old(rt, log, names)?;
+    }
     let file = open_new(rt, log, path, place)?;
     let file = BufWriter::with_capacity(rt.alloc(), MAX_WRITE, file)?;
     Ok(RecordFiles {
@@ -238,13 +262,73 @@ where
     if found.file_type().is_fifo() {
         return pipe_at(rt, path);
     }
-    if !found.is_file() || found.len() == 0 {
-        return Ok(Place::Other);
+    if !found.is_file() {
+        return Ok(Place::Open(how_to_open(true).open(rt, path)?));
     }
-    if is_recording(rt, path)? {
-        Ok(Place::Recording)
+    if found.len() == 0 {
+        return Ok(Place::Open(hold(rt, how_to_open(true).open(rt, path)?, path)?));
+    }
+    let (first, length) = first_bytes(rt, path)?;
+    if length < first.len() || first != FIRST_WORDS {
+        return Err(Unmade::Taken("is there, and is no recording"));
+    }
+    Ok(Place::Recording(hold(rt, File::open(rt, path)?, path)?))
+}
+
+/// Locks a file for as long as it is open. Refuses one that another process has locked, or that has lost this name
+/// meanwhile: a relay locks what it records into, and renames a recording that is there only while it holds its lock.
+fn hold<R: Files>(rt: &R, file: R::File, path: &str) -> Result<R::File, Unmade>
+where
+    R::File: AsRawFd,
+{
+    if lock(&file) && id_of(&fs::metadata(rt, path)?) == id_of(&file.metadata()?) {
+        Ok(file)
     } else {
-        Err(Unmade::Taken("is there, and is no recording"))
+        let what = "another relay records into it (it is locked): each needs a FILE of its own";
+        Err(Unmade::Taken(what))
+    }
+}
+
+/// Returns false if another process has locked the file (flock(2)). Where files cannot be locked, none is.
+fn lock(file: &impl AsRawFd) -> bool {
+    libc::flock(file.as_raw_fd(), libc::LOCK_EX | libc::LOCK_NB) == 0
+        || io::Error::from_raw_os_error(os::errno()).kind() != ErrorKind::WouldBlock
+}
+
+fn id_of(found: &Metadata) -> FileId {
+    (found.dev(), found.ino())
+}
+
+/// The file that has this name, if there is one. A link counts as itself.
+fn id_at(rt: &impl Files, path: &str) -> io::Result<Option<FileId>> {
+    match fs::symlink_metadata(rt, path) {
+        Ok(found) => Ok(Some(id_of(&found))),
+        Err(error) if error.kind() == ErrorKind::NotFound => Ok(None),
+        Err(error) => Err(error),
+    }
+}
+
+/// Whether two paths are of one file, by any names. It need not be there: then their folders are one, and the names in
+/// it.
+pub(crate) fn is_same(rt: &impl Files, one: &str, other: &str) -> bool {
+    match (fs::metadata(rt, one), fs::metadata(rt, other)) {
+        (Ok(one), Ok(other)) => one.is_file() && id_of(&one) == id_of(&other),
+        (Err(_), Err(_)) => {
+            let ((folder, name), (other_folder, other_name)) = (split(one), split(other));
+            let folders = (fs::metadata(rt, folder), fs::metadata(rt, other_folder));
+            name == other_name
+                && matches!(folders, (Ok(one), Ok(other)) if id_of(&one) == id_of(&other))
+        }
+        _ => false,
+    }
+}
+
+/// The folder of a path, and the name in it.
+fn split(path: &str) -> (&str, &str) {
+    match path.rsplit_once('/') {
+        Some(("", name)) => ("/", name),
+        Some(both) => both,
+        None => (".", path),
     }
 }
 
@@ -264,7 +348,7 @@ where
     let end = how_to_open(true).open(rt, path)?;
     drop(both);
     if has_reader(&end) {
-        Ok(Place::Pipe(end))
+        Ok(Place::Open(end))
     } else {
         Err(Unmade::Taken("is a FIFO that nobody reads"))
     }
@@ -281,22 +365,48 @@ fn has_reader(end: &impl AsRawFd) -> bool {
     asked[0].revents & system::POLLERR == 0
 }
 
+/// Gives what an earlier run has left at the second name a name of its own.
+fn keep_old<R: AllocGlobal + Files>(rt: &R, log: &impl Log, names: &Names) -> Result<(), Unmade>
+where
+    R::File: AsRawFd,
+{
+    match look_at(rt, names.old.as_str(), true)? {
+        Place::Nothing => Ok(()),
+        there => {
+            keep(rt, log, names.old.as_str(), names.path.as_str())?;
+            drop(there);
+            Ok(())
+        }
+    }
+}
+
 fn open_new<R: AllocGlobal + Files>(
     rt: &R,
     log: &impl Log,
     path: &str,
     place: Place<R::File>,
-) -> Result<R::File, Unmade> {
-    let is_there = match place {
-        Place::Pipe(end) => return Ok(end),
-        Place::Other => true,
-        Place::Nothing => false,
-        Place::Recording => {
-            keep(rt, log, path)?;
-            false
+) -> Result<R::File, Unmade>
+where
+    R::File: AsRawFd,
+{
+    match place {
+        Place::Open(file) => Ok(file),
+        Place::Nothing => make(rt, path),
+        Place::Recording(there) => {
+            keep(rt, log, path, path)?;
+            let made = make(rt, path);
+            // What was there stays locked until the new one is.
+            drop(there);
+            made
         }
-    };
-    Ok(how_to_open(is_there).open(rt, path)?)
+    }
+}
+
+fn make<R: Files>(rt: &R, path: &str) -> Result<R::File, Unmade>
+where
+    R::File: AsRawFd,
+{
+    hold(rt, how_to_open(false).open(rt, path)?, path)
 }
 
 /// How to open a file that is there, or make one that is not. Even if a file has come or gone since, none is emptied
@@ -312,12 +422,17 @@ fn how_to_open(is_there: bool) -> OpenOptions
     how
 }
 
-/// Gives the recording at a path the first free name of `PATH.1`, `PATH.2` and so on.
-fn keep<R: AllocGlobal + Files>(rt: &R, log: &impl Log, path: &str) -> Result<(), Unmade> {
+/// Gives the file of this name the first free one of `PATH.1`, `PATH.2` and so on.
+fn keep<R: AllocGlobal + Files>(
+    rt: &R,
+    log: &impl Log,
+    name: &str,
+    path: &str,
+) -> Result<(), Unmade> {
     let kept = free_name(rt, rt.alloc(), path)?;
     // This replaces the empty file that `free_name` has made.
-    fs::rename(rt, path, kept.as_str())?;
-    log_kept(log, path, kept.as_str());
+    fs::rename(rt, name, kept.as_str())?;
+    log_kept(log, name, kept.as_str());
     Ok(())
 }
 
@@ -328,12 +443,6 @@ fn log_kept(log: &impl Log, path: &str, kept: &str) {
         Level::Info,
         &format_args!("record: {name}: was there, and is {kept} now"),
     );
-}
-
-/// Whether the file at a path begins as a recording does.
-fn is_recording(rt: &impl Files, path: &str) -> io::Result<bool> {
-    let (first, length) = first_bytes(rt, path)?;
-    Ok(length == first.len() && first == FIRST_WORDS)
 }
 
 /// As many bytes of a file as every recording begins with, and how many the file has of these.

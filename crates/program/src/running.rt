@@ -6,7 +6,7 @@ use crate::extras::{Extras, extras_of};
 use crate::faults::{DONE, ProgramFault};
 use crate::logging::{self, Until, direct_log, starting_filter};
 use crate::passed::passed_socket;
-use crate::recording_file::{RecordFiles, create, find_place};
+use crate::recording_file::{Place, RecordFiles, create, find_place};
 use crate::starting::{
     log_start, look_at_addresses, prepare, print_listening, warn_of_short_time, warn_of_silence,
 };
@@ -95,7 +95,7 @@ pub(crate) fn read<R: AllocGlobal + Files, L: Log>(
     let extras = extras_of(log, relay.extras)?;
     let settings = settings_of(rt, log, &relay.settings, passed)?;
     warn_of_silence(log, settings.log, &extras, relay.stats_file.is_some());
-    look_apart(log, relay)?;
+    look_apart(rt, log, relay)?;
     Ok((settings, extras))
 }
 
@@ -115,7 +115,10 @@ where
     look_at_addresses(log, &settings)?;
     let in_parts = extras.record_size.is_some();
     let place = find_place(rt, log, relay.record, in_parts)?;
-    match listen(rt, log, relay, settings, in_parts, passed) {
+    let is_new = relay.record.is_some() && matches!(place, Place::Nothing);
+    let has_stats = relay.stats_file.is_some();
+    let more = u64::from(is_new) + u64::from(in_parts) + u64::from(has_stats);
+    match listen(rt, log, relay, settings, more, passed) {
         Ok((settings, bound, stats_file)) => {
             match create(rt, log, relay.record, place, in_parts) {
                 Ok(files) => Ok(Given {
@@ -141,11 +144,9 @@ fn listen<R: AllocGlobal + Files + Net + Copy + Drop>(
     log: &(impl Log + Net),
     relay: &Relay<'_>,
     settings: Settings,
-    in_parts: bool,
+    more: u64,
     passed: Option<Passed>,
 ) -> Result<(Settings, Bound, Option<StatsFile>), ProgramFault> {
-    let (has_record, has_stats) = (relay.record.is_some(), relay.stats_file.is_some());
-    let more = u64::from(has_record) + u64::from(in_parts) + u64::from(has_stats);
     let stats_file = find_file(rt, log, relay.stats_file)?;
     let fault = match bind(log, &settings, passed) {
         Ok(bound) => match prepare(rt, log, settings, more) {

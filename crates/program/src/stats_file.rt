@@ -4,9 +4,9 @@ ghost use Rattle.std.specs.{Prelude.{◌≡◌, IfErr, true}, Fs.{asks_write, as
 ghost use Rattle.program.specs.Faults.{status_of};
 
 use crate::faults::ProgramFault;
-use crate::recording_file::{EISDIR, Unmade, first_bytes, refused};
+use crate::recording_file::{EISDIR, OLD, Unmade, first_bytes, is_same, refused};
 use crate::streams::{FileName, log_error};
-use commands::Relay;
+use commands::{Relay, Source};
 use log::Log;
 use std::alloc::{AllocError, AllocGlobal};
 use std::fs::{self, OpenOptions};
@@ -39,19 +39,34 @@ impl<R: Files> Replacing for R {
     }
 }
 
-/// Refuses with `StatsFile`, and logs the cause, a file that is one of `--record`, which it would replace.
-pub(crate) fn look_apart(log: &impl Log, relay: &Relay<'_>) -> Result<(), ProgramFault> {
-    let (Some(record), Some(path)) = (relay.record, relay.stats_file) else {
+/// Refuses with `StatsFile`, and logs the cause, a file that is the settings', or one of `--record`, which it would
+/// replace. Other files are told apart by what is in them.
+pub(crate) fn look_apart<R: AllocGlobal + Files>(
+    rt: &R,
+    log: &impl Log,
+    relay: &Relay<'_>,
+) -> Result<(), ProgramFault> {
+    let Some(path) = relay.stats_file else {
         return Ok(());
     };
-    let rest = path
-        .trim_start_matches("./")
-        .strip_prefix(record.trim_start_matches("./"));
-    if rest == Some("") || rest == Some(".old") && relay.extras.record_size.is_some() {
-        log_error(log, &FileName("stats-file", path), &"is a file of --record");
-        return Err(ProgramFault::StatsFile);
+    let mut what = None;
+    if let Some(record) = relay.record {
+        let old = format!(in rt.alloc(); "{record}{OLD}")?;
+        let in_parts = relay.extras.record_size.is_some();
+        if is_same(rt, path, record) || in_parts && is_same(rt, path, old.as_str()) {
+            what = Some("is a file of --record");
+        }
     }
-    Ok(())
+    if let Source::File(config, _) = &relay.settings {
+        if is_same(rt, path, config) {
+            what = Some("is the file of --config");
+        }
+    }
+    let Some(what) = what else {
+        return Ok(());
+    };
+    log_error(log, &FileName("stats-file", path), &what);
+    Err(ProgramFault::StatsFile)
 }
 
 /// The file at a path, if one is given. Refuses with `StatsFile`, and logs the cause, if it cannot be replaced: nothing
