@@ -271,7 +271,7 @@ one_more {q = q} {b = b} made turn = rw add-one (record {
 
 module _ {said : Bool → Type 0} (tells : ℕ → Type 0) (gave_none : Unaccepted → Type 0) {limit words : ℕ} {p q : PollerState} {a b : Own} where
   -- a round, after a look at the flag
-  abbrev pub round_made : {begun : PollerState} → Asked said p begun → RoundDone begun q a b → RoundKeeps limit begun q a b → words ≡ length q.table → EndedEarly words a ⊎ WaitedAsMay limit begun q a
+  abbrev pub round_made : {begun : PollerState} → Asked said p begun → RoundDone begun q a b → RoundKeeps limit begun q a b → words ≡ length q.table → EndedEarly words a ⊎ WaitedAsMay limit begun q a b
       → RoundMade said tells gave_none limit p q a b
   round_made {begun} asked done keeps same waits = record { begun = begun; asked = asked; round = done; keeps = keeps; waits = rw same at waits }
 

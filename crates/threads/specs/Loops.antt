@@ -237,7 +237,7 @@ module _ (said : Bool → Type 0) (tells : ℕ → Type 0) (gave_none : Unaccept
     pub asked : Asked said p begun
     pub round : RoundDone begun q a b
     pub keeps : RoundKeeps limit begun q a b
-    pub waits : EndedEarly (length q.table) a ⊎ WaitedAsMay limit begun q a
+    pub waits : EndedEarly (length q.table) a ⊎ WaitedAsMay limit begun q a b
 
   -- such a round, which was not refused: the hand had no room, and nothing was done, or the seat is not worn at its end
   pub record RoundOver (p q : PollerState) (a b : Own) : Type 0 where
