@@ -1,5 +1,5 @@
 -- What a server did that served, from its settings to the ends of its threads.
-use Rattle.std.specs.Prelude.{◌≡◌, ℕ, All, List}
+use Rattle.std.specs.Prelude.{◌≡◌, ℕ, All, List, length}
 use Rattle.claims.specs.Seats.{TableId, fresh_seat}
 use Rattle.common.specs.{declared.front.Unaccepted.Unaccepted, Told.Seen}
 use Rattle.sizes.specs.{declared.split.Split.Split, Pollers.pollers_for, Splits.parts_of}
@@ -19,6 +19,7 @@ pub record RanAs (settings : Settings) (tells : ℕ → Type 0) (gave_none : Una
     (served : Served) : Type 0 where
   pub split : Split
   pub deals : Deals settings split
+  pub fronts : length shown ≡ pollers_for settings.slots settings.workers
   pub claims : TableId
   pub words : claims.words ≡ settings.slots
   pub mark : ℕ

@@ -1,3 +1,4 @@
+use Rattle.std.proofs.{Common.{◌∙◌}, lemmas.List.{length-map}}
 use Rattle.server.proofs.Serves.{if_some_map}
 use Rattle.server.proofs.serving.Lent.run.Goals as goal
 
@@ -8,6 +9,7 @@ returns-in-Ok g c =
       ran = if_some_map c.run_threads.result.served (λ served ran. record {
         split = c.in-Ok.server.split;
         deals = made.split;
+        fronts = length-map _ _ ∙ c.requires;
         claims = c.in-Ok.server.shared.claims;
         words = made.slots;
         mark = ran.0;
