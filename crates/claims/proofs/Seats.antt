@@ -1,5 +1,5 @@
 -- For callers: where a seat has changed, and that it holds nothing.
-use Rattle.claims.proofs.Steps.Rule.Histories.{same_at, ◌≡◌, ℕ, ◌+◌, List, [], ◌∷◌, ◌++◌, refl, ap, ◌∙◌, arith, append_assoc, append-nil, dite, ℕ_discrete, Account, Exchange, Posted, Wake, Quiet, Worn, one, blank, after, after_all, account_of, minted_by, TableId, SeatState, account_at, HoldsNot, HoldsNothing, OnlyAt, Adds, fresh_seat, PostChange}
+use Rattle.claims.proofs.Steps.Rule.Histories.{same_at, ◌≡◌, ℕ, ◌+◌, List, [], ◌∷◌, ◌++◌, refl, ap, ◌∙◌, arith, append_assoc, append-nil, dite, ℕ_discrete, Account, Exchange, Posted, Wake, Quiet, Worn, one, blank, account_with, after_all, account_of, minted_by, TableId, SeatState, account_at, HoldsNot, HoldsNothing, OnlyAt, Adds, fresh_seat, PostChange}
 pub use Rattle.claims.proofs.Steps.Rule.Histories.{after_both, posted_of}
 use Rattle.claims.specs.declared.view.Exchange.TheVariants as exchange
 
@@ -40,14 +40,14 @@ module _ (slot : ℕ) (old new : SeatState) where
   only_at_post Worn change = only_at_none change.0
 
 -- the tickets of exchanges after others
-minted_on : (e : Exchange) (a : Account) → (after e a).minted ≡ a.minted + (after e blank).minted
+minted_on : (e : Exchange) (a : Account) → (account_with e a).minted ≡ a.minted + (account_with e blank).minted
 minted_on exchange.Busy a = omega arith
 minted_on e a = omega arith
 
 minted_all : (es : List Exchange) (a b : Account) → (after_all es a).minted + b.minted ≡ a.minted + (after_all es b).minted
 minted_all [] a b = omega arith
 minted_all (e ∷ es) a b =
-    let rest = minted_all es (after e a) (after e b) in
+    let rest = minted_all es (account_with e a) (account_with e b) in
     let one = minted_on e a in
     let two = minted_on e b in
     omega arith

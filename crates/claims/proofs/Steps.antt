@@ -61,7 +61,7 @@ abbrev pub posts_by : StepKind → ℕ
 posts_by post = 1
 posts_by kind = 0
 
-posted_by : (kind : StepKind) (p : ℕ) (f h : Bool) (a : Account) → posted_of (after (made kind (record { pending = p; free = f; held = h })) a) ≡ posted_of a + posts_by kind
+posted_by : (kind : StepKind) (p : ℕ) (f h : Bool) (a : Account) → posted_of (account_with (made kind (record { pending = p; free = f; held = h })) a) ≡ posted_of a + posts_by kind
 posted_by claim p f true a = omega arith
 posted_by claim p f false a = omega arith
 posted_by adopt p true h a = omega arith
@@ -69,13 +69,13 @@ posted_by adopt p false h a = omega arith
 posted_by kind p f h a = omega arith
 
 -- a view's accounts after one exchange more at a slot
-pub accounts_on : (v : View) (slot : ℕ) (e : Exchange) → map account_of (set v.traces slot (trace_in slot v ++ e ∷ [])) ≡ set (accounts_of v) slot (after e (account_in slot v))
+pub accounts_on : (v : View) (slot : ℕ) (e : Exchange) → map account_of (set v.traces slot (trace_in slot v ++ e ∷ [])) ≡ set (accounts_of v) slot (account_with e (account_in slot v))
 accounts_on v slot e = rw (map-set, after_both)
 
 still_few : (kind : StepKind) (s : WordState) (slot : ℕ) (v : View) → slot < length v.traces → sum_by posted_of (accounts_of v) + posts_by kind ≤ 2 ^ 56
     → sum_by posted_of (map account_of (set v.traces slot (trace_in slot v ++ made kind s ∷ []))) ≤ 2 ^ 56
 still_few kind s slot v within few =
-    let next = after (made kind s) (account_in slot v) in
+    let next = account_with (made kind s) (account_in slot v) in
     let put = rw (account_there v slot) at (sum_by-set posted_of (accounts_of v) slot next blank (rw length-map within)) in
     let by = posted_by kind s.pending s.free s.held (account_in slot v) in
     rw (accounts_on v slot (made kind s)) (omega arith)
@@ -165,12 +165,12 @@ module _ {kind : StepKind} {slot found id id' : ℕ} {v w : View} {table table' 
 
   module _ {posts : ℕ} {held : List Bool} (ok : SeatOk posts held table v) where
     -- what the seat keeps beside its view, by the exchange
-    pub kept_beside : {x : Exchange} {posts' : ℕ} {held' : List Bool} → last ≡ x → posts' + (account_in slot v).posted ≡ posts + (after x (account_in slot v)).posted → posts' ≤ 2 ^ 56
-        → held' ≡ set held slot (after x (account_in slot v)).holds → SeatOk posts' held' table' w
+    pub kept_beside : {x : Exchange} {posts' : ℕ} {held' : List Bool} → last ≡ x → posts' + (account_in slot v).posted ≡ posts + (account_with x (account_in slot v)).posted → posts' ≤ 2 ^ 56
+        → held' ≡ set held slot (account_with x (account_in slot v)).holds → SeatOk posts' held' table' w
     kept_beside {x} {held' = held'} is more few marks =
-        let next : Account = after x (account_in slot v) in
+        let next : Account = account_with x (account_in slot v) in
         let accounts : accounts_of w ≡ set (accounts_of v) slot next =
-        ap accounts_of told.1.becomes ∙ accounts_on v slot last ∙ ap (λ (e : Exchange). set (accounts_of v) slot (after e (account_in slot v))) is in
+        ap accounts_of told.1.becomes ∙ accounts_on v slot last ∙ ap (λ (e : Exchange). set (accounts_of v) slot (account_with e (account_in slot v))) is in
         let put = rw (account_there v slot) at (sum_by-set posted_of (accounts_of v) slot next blank (rw length-map wide_traces)) in
         let counted = ok.counted in
         let sum = ap (sum_by posted_of) accounts in

@@ -15,8 +15,8 @@ abbrev pub OpensLawful : ℕ → List SeatState → Type 0
 OpensLawful slots seats = (words : List ℕ) → ClaimRule slots words (map view_of seats) ↔ (words ≡ replicate slots 3)
 
 -- how many tickets a slot needs: one while notes wait and it is not marked as held
-abbrev pub due : WordState → ℕ
-due w = if w.held then 0 else one (some_wait w.pending)
+abbrev pub tickets_due : WordState → ℕ
+tickets_due w = if w.held then 0 else one (some_wait w.pending)
 
 -- the slot's holder knows of no more notes than wait, and any other seat knows of none
 abbrev pub Knows : ℕ → Account → Type 0
@@ -33,7 +33,7 @@ pub record Counts (state : WordState) (accounts : List Account) : Type 0 where
   -- A free slot is held and nobody holds it. A slot that is held and not free has one holder, any other slot none
   pub holders : sum_by (λ a. one a.holds) accounts + one state.free ≡ one state.held
   -- the tickets that were made and not redeemed are those that the slot needs
-  pub tickets : sum_by (λ a. a.minted) accounts ≡ sum_by (λ a. a.redeemed) accounts + due state
+  pub tickets : sum_by (λ a. a.minted) accounts ≡ sum_by (λ a. a.redeemed) accounts + tickets_due state
   pub known : All (Knows state.pending) accounts
   -- a slot is free at the start, each retire frees it, and each adopt of the free slot ends that
   pub freed : one state.free + sum_by (λ a. a.adopts) accounts ≡ 1 + sum_by (λ a. a.retires) accounts
@@ -60,4 +60,4 @@ NotesAreKept = OfEachSlot (λ word accounts. (state : WordState) → word ≡ wo
 -- a slot's tickets that are out, made and not redeemed, are as many as the slot needs by its word
 abbrev pub TicketsAreNeeded : Type 0
 TicketsAreNeeded = OfEachSlot (λ word accounts. (state : WordState) → word ≡ word_of state →
-    sum_by (λ a. a.redeemed) accounts + due state ≡ sum_by (λ a. a.minted) accounts)
+    sum_by (λ a. a.redeemed) accounts + tickets_due state ≡ sum_by (λ a. a.minted) accounts)

@@ -1,7 +1,7 @@
 -- The claim rule, and what one step does. The rule is true of all words and of the views of all seats between any two
 -- steps, in every schedule.
 use Rattle.std.specs.Prelude.{◌≡◌, ℕ, ◌+◌, ◌^◌, ◌<◌, ◌≤◌, ◌==◌, true, List, [], ◌∷◌, ◌++◌, length, All, sum_by, if◌then◌else◌, slice_index, slice_index_or, slice_set}
-use Rattle.claims.specs.{declared.view.{Account.Account, Exchange.Exchange, View.View}, Words.{WordState, StepKind, post, claim, adopt, word_of, word_after, made, kind_of}, Views.{blank, after, accounts_of, trace_in, traces_at}}
+use Rattle.claims.specs.{declared.view.{Account.Account, Exchange.Exchange, View.View}, Words.{WordState, StepKind, post, claim, adopt, word_of, word_after, made, step_kind}, Views.{blank, account_with, accounts_of, trace_in, traces_at}}
 use mathlib.Core.Option.{some}
 use lib.ListN.{get_elem?}
 
@@ -12,7 +12,7 @@ History = List (ℕ × Exchange)
 -- these exchanges lead a word from one state to another, and each answers what the word that it found says
 abbrev pub Leads : WordState → History → WordState → Type 0
 Leads w [] v = w ≡ v
-Leads w (s ∷ rest) v = (s.1 ≡ made (kind_of s.1) w) × Leads (word_after (kind_of s.1) w) rest v
+Leads w (s ∷ rest) v = (s.1 ≡ made (step_kind s.1) w) × Leads (word_after (step_kind s.1) w) rest v
 
 -- the exchanges of this seat, in order
 abbrev pub by_seat : ℕ → History → List Exchange
@@ -29,11 +29,11 @@ NeedsHolder kind a = a.holds ≡ true
 -- from this account on the seat takes, releases and retires only what it holds
 abbrev pub Keeps : Account → List Exchange → Type 0
 Keeps a [] = Unit {0}
-Keeps a (e ∷ es) = NeedsHolder (kind_of e) a × Keeps (after e a) es
+Keeps a (e ∷ es) = NeedsHolder (step_kind e) a × Keeps (account_with e a) es
 
 -- the word of a slot at the start: free, held, and without notes
-abbrev pub unused : WordState
-unused = record { pending = 0; free = true; held = true }
+abbrev pub unused_word : WordState
+unused_word = record { pending = 0; free = true; held = true }
 
 -- One slot: its word, and the trace of each seat there. The traces make up one history. It leads from the word of an
 -- unused slot to this word, and has each seat's exchanges in the order of the seat's trace
@@ -41,7 +41,7 @@ pub record SlotRule (word : ℕ) (traces : List (List Exchange)) : Type 0 where
   pub history : History
   pub state : WordState
   pub reads : word ≡ word_of state
-  pub folds : Leads unused history state
+  pub folds : Leads unused_word history state
   pub mine : (seat : ℕ) → by_seat seat history ≡ slice_index_or traces seat []
   pub fair : All (Keeps blank) traces
 

@@ -8,19 +8,19 @@ blank = record { posted = 0; taken = 0; minted = 0; redeemed = 0; holds = false;
 
 -- What each exchange makes of the account. A claim that finds notes redeems their ticket, and a holder knows of each
 -- note that it posts
-abbrev pub after : Exchange → Account → Account
-after (Post woke) a = record a { posted = a.posted + 1; minted = a.minted + one woke; known = a.known + one a.holds }
-after Busy a = a
-after (Held pending) a = record a { holds = true; known = pending; redeemed = a.redeemed + one (some_wait pending) }
-after (Take count) a = record a { taken = a.taken + count; known = 0 }
-after (Release woke) a = record a { holds = false; known = 0; minted = a.minted + one woke }
-after Retire a = record a { holds = false; known = 0; retires = a.retires + 1 }
-after (Adopted pending) a = record a { holds = true; known = pending; adopts = a.adopts + 1 }
-after NotFree a = a
+abbrev pub account_with : Exchange → Account → Account
+account_with (Post woke) a = record a { posted = a.posted + 1; minted = a.minted + one woke; known = a.known + one a.holds }
+account_with Busy a = a
+account_with (Held pending) a = record a { holds = true; known = pending; redeemed = a.redeemed + one (some_wait pending) }
+account_with (Take count) a = record a { taken = a.taken + count; known = 0 }
+account_with (Release woke) a = record a { holds = false; known = 0; minted = a.minted + one woke }
+account_with Retire a = record a { holds = false; known = 0; retires = a.retires + 1 }
+account_with (Adopted pending) a = record a { holds = true; known = pending; adopts = a.adopts + 1 }
+account_with NotFree a = a
 
 abbrev pub after_all : List Exchange → Account → Account
 after_all [] a = a
-after_all (e ∷ es) a = after_all es (after e a)
+after_all (e ∷ es) a = after_all es (account_with e a)
 
 -- the account that these exchanges of one seat at one slot lead to
 abbrev pub account_of : List Exchange → Account

@@ -56,12 +56,12 @@ made release w = Release (some_wait w.pending)
 made retire w = Retire
 made adopt w = if w.free then Adopted w.pending else NotFree
 
-abbrev pub kind_of : Exchange → StepKind
-kind_of (Post woke) = post
-kind_of Busy = claim
-kind_of (Held pending) = claim
-kind_of (Take count) = take
-kind_of (Release woke) = release
-kind_of Retire = retire
-kind_of (Adopted pending) = adopt
-kind_of NotFree = adopt
+abbrev pub step_kind : Exchange → StepKind
+step_kind (Post woke) = post
+step_kind Busy = claim
+step_kind (Held pending) = claim
+step_kind (Take count) = take
+step_kind (Release woke) = release
+step_kind Retire = retire
+step_kind (Adopted pending) = adopt
+step_kind NotFree = adopt

@@ -2,7 +2,7 @@
 -- and to what the wires counted of it.
 use Rattle.std.{proofs.{Common.{◌≡◌, ◌⊎◌, inl, inr, ℕ, ◌≤◌, true, false, List, [], ◌++◌, length, take, Option, Some, None, refl, sym, ◌∙◌, ap, append-nil, add-zero, ◌+◌, Bool, ◌∷◌, append_assoc, length-append, zero-add, add_assoc, arith, option_map, unwrap_or}, lemmas.{Grind.common_steps, Option.option_and_then_some}, KnownBytes.{Appends-nil, Consumes-nil, Consumes-trans, Appends-trans}}, specs.{Prelude.{if◌then◌else◌, OnSome}, Io.KnownBytes.{Consumes, Appends, Keeps}, declared.io.ErrorKind.ErrorKind}}
 use Rattle.relay_core.{specs.{declared.{Direction.Direction, Side.{Side, TheVariants.{Client, Target}}, call.Call.{Call, TheVariants.{Write, Read}}, verdict.Fault.{Fault, TheVariants.{Broken, Idle}}}, Calls.side_of, Pairs.{PairState, verdict}, Order.{offer, next_call}, Replies.{AnswerValue, Bytes, Wrote, Blocked, fits, after}, Runs.{brought, carried, answered, over, all_brought, all_carried}, Idle.{is_overdue, expired}, Laws.{TellsOf, IsOverdue}}, proofs.Pairs.{take-offer, answers_are_to_next_calls, failures_are_told, only_overdue_pairs_expire}}
-use Rattle.engine.specs.{Classes.kind_of_error, Wires.{Asked, Given, Refused, WireView, Rises}, Turns.{IsToldBy, asked, is_failed, is_blocked, way_from, way_to, one_if, count_on, same_side, Made, made_if, made_on, AreMade, IsServed, FailsBy, IsTurn}, Steps.{IsErrorReply, IsError, IsStep, IsAnswered, IsMove}}
+use Rattle.engine.specs.{Classes.kind_of_error, Wires.{Asked, Given, Refused, WireView, Rises}, Turns.{IsToldBy, asked, is_failed, is_blocked, way_from, way_to, one_if, count_on, same_side, MadeCall, made_if, made_on, AreCalled, IsServed, FailsBy, IsTurn}, Steps.{IsErrorReply, IsError, IsStep, IsAnswered, IsMove}}
 use Rattle.relay_core.specs.declared.verdict.Verdict.TheVariants as verdict
 
 -- ---- one call
@@ -123,8 +123,8 @@ still : (side : Side) (p : PairState) (call : Call) (reply : AnswerValue) → fi
 still side p call reply fit other = grind (arith, common_steps)
 
 -- calls after calls
-made_then : {S : Type 0} (told : S → WireView) (does : Asked → Given → S → S → Type 0) (calls more : List Made) (a b c : S) → AreMade told does calls a b
-    → AreMade told does more b c → AreMade told does (calls ++ more) a c
+made_then : {S : Type 0} (told : S → WireView) (does : Asked → Given → S → S → Type 0) (calls more : List MadeCall) (a b c : S) → AreCalled told does calls a b
+    → AreCalled told does more b c → AreCalled told does (calls ++ more) a c
 made_then told does [] more a b c first next = rw first at next
 made_then told does (call ∷ calls) more a b c first next = (first.0, first.1, made_then told does calls more first.0 b c first.2 next)
 

@@ -57,18 +57,18 @@ asked p (call.Join side) = ask.Join
 asked p (call.Shut side) = ask.Shut
 
 -- a call that was made, and the answer that the pair got
-pub record Made : Type 0 where
+pub record MadeCall : Type 0 where
   pub asked : Asked
   pub reply : AnswerValue
 
-abbrev pub made : Asked → AnswerValue → Made
+abbrev pub made : Asked → AnswerValue → MadeCall
 made asked reply = record { asked = asked; reply = reply }
 
-abbrev pub made_if : Side → PairState → Call → AnswerValue → List Made
+abbrev pub made_if : Side → PairState → Call → AnswerValue → List MadeCall
 made_if side p call reply = if same_side (side_of call) side then made (asked p call) reply ∷ [] else []
 
 -- the calls on one side, with their answers, over a list of answers at one second
-abbrev pub made_on : Side → ℕ → PairState → List AnswerValue → List Made
+abbrev pub made_on : Side → ℕ → PairState → List AnswerValue → List MadeCall
 made_on side now p [] = []
 made_on side now p (reply ∷ replies) =
     unwrap_or (option_map (λ (call : Call). made_if side p call reply) (next_call p)) []
@@ -91,21 +91,21 @@ IsToldBy given Interrupted = (error : ErrorKind) × (given ≡ Refused error)
 IsToldBy given (Failed kind) = IsFailure given kind
 
 -- one call was made on a wire: what it gave became the answer, and it did what the wire specifies
-pub record IsCalled {S : Type 0} (does : Asked → Given → S → S → Type 0) (call : Made) (old new : S) : Type 0 where
+pub record IsCalled {S : Type 0} (does : Asked → Given → S → S → Type 0) (call : MadeCall) (old new : S) : Type 0 where
   pub given : Given
   pub told : IsToldBy given call.reply
   pub did : does call.asked given old new
 
 -- such a call, and the wire counted its answer if that is a fault or "would block"
-pub record IsMade {S : Type 0} (told : S → WireView) (does : Asked → Given → S → S → Type 0) (call : Made) (old new : S) : Type 0 where
+pub record IsMade {S : Type 0} (told : S → WireView) (does : Asked → Given → S → S → Type 0) (call : MadeCall) (old new : S) : Type 0 where
   pub called : IsCalled does call old new
   pub faults : Rises (told old).faults (told new).faults (if is_failed call.reply then 1 else 0)
   pub blocks : Rises (told old).blocks (told new).blocks (if is_blocked call.reply then 1 else 0)
 
 -- exactly these calls were made, in order and each once
-abbrev pub AreMade : {S : Type 0} → (S → WireView) → (Asked → Given → S → S → Type 0) → List Made → S → S → Type 0
-AreMade told does [] old new = new ≡ old
-AreMade {S} told does (call ∷ calls) old new = (between : S) × IsMade told does call old between × AreMade told does calls between new
+abbrev pub AreCalled : {S : Type 0} → (S → WireView) → (Asked → Given → S → S → Type 0) → List MadeCall → S → S → Type 0
+AreCalled told does [] old new = new ≡ old
+AreCalled {S} told does (call ∷ calls) old new = (between : S) × IsMade told does call old between × AreCalled told does calls between new
 
 -- what a list of answers did to the wire on one side: bytes that came in were read from it, bytes that went out were
 -- written to it, it counted each fault and each "would block", and the calls on its side were made on it
@@ -115,7 +115,7 @@ pub record IsServed {S : Type 0} (told : S → WireView) (does : Asked → Given
   pub written : Appends (told old).written (told new).written (all_carried now p (way_to side) replies)
   pub faults : Rises (told old).faults (told new).faults (count_on is_failed side now p replies)
   pub blocks : Rises (told old).blocks (told new).blocks (count_on is_blocked side now p replies)
-  pub made : AreMade told does (made_on side now p replies) old new
+  pub made : AreCalled told does (made_on side now p replies) old new
 
 -- why a turn fails a live pair: its last answer is a failed call, or after that answer the pair is overdue
 abbrev pub FailsBy : ℕ → ℕ → PairState → List AnswerValue → Fault → Type 0

@@ -1,11 +1,11 @@
 -- Left alone, the threads come to rest: each step leaves a sound state, which the relay's own steps make lighter.
 pub mod Acts
-use Rattle.interleaving.{proofs.Runs.{run_on, stage_acts, Programs.{rests_like, some_there}}, specs.{Likeness.{EveryInterleavingIsARun, IsARun, NoActInVain, Settled}, Rest.{HasStopped, LeftAloneItEnds, LeftAloneItRests, client_weight, is_own}, Threads.{Accept, Acts as DoesAct, Begin, Calls, Connect, Deliver, Drop, Network, Open, Poll, Spurious, Step, Sweep, Tick, Vanish, delivers, is_over, poller_rests, resting, rests, run, start, step, watched_of}}}
+use Rattle.interleaving.{proofs.Runs.{run_on, stage_acts, Programs.{rests_like, some_there}}, specs.{Likeness.{EveryInterleavingIsARun, IsARun, NoActInVain, Settled}, Rest.{HasStopped, LeftAloneItEnds, LeftAloneItRests, client_weight, is_own}, Threads.{Accept, Acts as DoesAct, Begin, Calls, Connect, Deliver, Drop, Network, Open, Poll, Spurious, Step, Sweep, Tick, Vanish, delivers, is_over, poller_rests, resting_thread, rests, run, start, step, watched_by}}}
 use Rattle.kernel_model.specs.{Ends.is_nonempty, declared.accepting.Accepting.TheVariants.{Accepted, Blocked}}
 use Rattle.relay_core.specs.declared.call.Call.{Call as PairCall}
 use Rattle.std.{proofs.{Common.{Vec, ltb-true, nat_lt, option_map, replicate, ◌&&◌, ◌++◌, ◌==◌}, lemmas.{List.length-replicate, Option.{option_and_then_some, slice_get-get_or}}}, specs.{Cmp.{first_so, second_so}, Global.Global, List.{list_all, list_any}}}
 use Rattle.token.specs.declared.kind.Kind.TheVariants.{Reset}
-use Rattle.world.{proofs.Headline.Ends.Pairs.Holders.{SlotOk, facts, turns_after, worker_closes, worker_holds, Events.{Happens, Ticks, holds_after, Lists.{get-replicate, get-set_other, kept_guard, total_none}}}, specs.{CoreLaws.CoreLaws, Due.{due, due_place, has_ticket, movable}, Headline.ListenerHolds, Slots.{is_by_worker, is_held}, States.{opening, resting as idle_worker}, Steps.change_at, Support.{one as one_if, worker_tickets}, declared.{actors.Holder.{Holder, TheVariants.{By, Free, Nobody}}, event.Event.Event}}}
+use Rattle.world.{proofs.Headline.Ends.Pairs.Holders.{SlotOk, facts, turns_after, worker_closes, worker_holds, Events.{Happens, Ticks, holds_after, Lists.{get-replicate, get-set_other, kept_guard, total_none}}}, specs.{CoreLaws.CoreLaws, Due.{due, due_place, has_ticket, movable}, Headline.ListenerHolds, Slots.{is_by_worker, is_held}, States.{opening, resting_worker as idle_worker}, Steps.change_at, Support.{one as one_if, worker_tickets}, declared.{actors.Holder.{Holder, TheVariants.{By, Free, Nobody}}, event.Event.Event}}}
 use denote.RawPtr.{null_ptr}
 unfoldable use Rattle.world.specs.Calls.{called}
 use Acts.*
@@ -52,7 +52,7 @@ module _ {l : Limits} {st : System} (sound : Sound l st) (stopped : HasStopped s
     no_program (Ending c out) is = absurd (
         let a = some_there (end_at st.kernel.ends c.ends.client) (out.open_ends Client) in
         let b = some_there (end_at st.kernel.ends c.ends.target) (out.open_ends Target) in
-        let none = no_act {todo = ended} is in
+        let none = no_act {todo = end_acts} is in
         closes_on st.kernel c.ends a.0 b.0 a.1 b.1 (sound.apart c.ends out.ends) (mapped _ (kernel.close_both st.kernel c.ends) (rw out.out at none)))
     no_program known is = let none = no_act is in cc
 
@@ -60,7 +60,7 @@ module _ {l : Limits} {st : System} (sound : Sound l st) (stopped : HasStopped s
 
   module _ (some : 1 ≤ l.workers) (over : (i : ℕ) (t : Thread) → slice_get st.threads i ≡ Some t → t.todo ≡ []) where
     poller : (t : Thread) × (slice_get st.threads 0 ≡ Some t)
-    poller = (get_or st.threads 0 resting, slice_get-get_or st.threads 0 resting (omega (arith, sound.count)))
+    poller = (get_or st.threads 0 resting_thread, slice_get-get_or st.threads 0 resting_thread (omega (arith, sound.count)))
 
     rests_now : poller_rests st ≡ true
     rests_now = rw (poller.1, over 0 poller.0 poller.1) refl
@@ -190,22 +190,22 @@ module _ {l : Limits} {st : System} (s : Sound l st) where
   fine each nothing (Tick n) = kept_guard _ _ (λ may. other (assumption s))
   fine each nothing (Network side change) = kept_bind _ st.ends (λ ends is. kept_map _ (change_at st.kernel (descriptor ends side) change) (λ q may. other (assumption s)))
   fine each nothing Connect = kept_map _ (kernel.connect_in st.kernel) (λ q may. other (assumption s))
-  fine each nothing (Spurious who) = kept_bind _ (watched_of st who) (λ what is. kept_map _ (kernel.spurious st.kernel what) (λ q may. other (assumption s)))
-  fine each nothing (Vanish who) = kept_bind _ (watched_of st who) (λ what is. kept_map _ (kernel.vanish st.kernel what) (λ q may. other (assumption s)))
+  fine each nothing (Spurious who) = kept_bind _ (watched_by st who) (λ what is. kept_map _ (kernel.spurious st.kernel what) (λ q may. other (assumption s)))
+  fine each nothing (Vanish who) = kept_bind _ (watched_by st who) (λ what is. kept_map _ (kernel.vanish st.kernel what) (λ q may. other (assumption s)))
   fine each nothing (Accept Accepted) = kept_when _ _ (λ may. kept_over _ (kernel.accept st.kernel Accepted) (kept_guard _ _ (λ some.
       let m = may_accept (poller_rests st) st.flag st.accepted (nat_lt 0 st.free) may in
       let free : true ≡ true → 1 ≤ st.free = λ yes. ltb-true 0 st.free m.2 in
-      let begun : (t : Thread) → slice_get st.threads 0 ≡ Some t → t.todo ≡ open_slot → true ≡ true = λ t at opens. refl in
-      record { sound = assumption (s, free, begun); lighter = λ own. accepts m.1 some })))
+      let turn_begun : (t : Thread) → slice_get st.threads 0 ≡ Some t → t.todo ≡ open_slot → true ≡ true = λ t at opens. refl in
+      record { sound = assumption (s, free, turn_begun); lighter = λ own. accepts m.1 some })))
   fine each nothing (Accept Blocked) = kept_when _ _ (λ may. kept_over _ (kernel.accept st.kernel Blocked) (kept_guard _ _ (λ none.
       let m = may_accept (poller_rests st) st.flag st.accepted (nat_lt 0 st.free) may in
       record { sound = assumption s; lighter = λ own. omega (arith, ap one m.0) })))
   fine each nothing (Accept reply) = kept_when _ _ (λ may. kept_some (other s))
   fine each nothing Drop = kept_guard _ _ (λ may.
       let free : false ≡ true → 1 ≤ st.free = λ yes. absurd (cc) in
-      let begun : (t : Thread) → slice_get st.threads 0 ≡ Some t → t.todo ≡ open_slot → false ≡ true =
+      let turn_begun : (t : Thread) → slice_get st.threads 0 ≡ Some t → t.todo ≡ open_slot → false ≡ true =
       λ t at opens. (let over : is_over t.todo ≡ true = rw at at (first_so (poller_rests st) _ may) in absurd (cc)) in
-      record { sound = assumption (s, free, begun); lighter = λ own. rw (second_so (poller_rests st) st.accepted may) (omega arith) })
+      record { sound = assumption (s, free, turn_begun); lighter = λ own. rw (second_so (poller_rests st) st.accepted may) (omega arith) })
   fine each nothing (Poll names) = kept_when (poller_rests st && (length st.batch == 0)) _ (λ may. kept_over _ (kernel.poll st.kernel names.items) (kept_guard _ _ (λ can.
       let parts = and_parts (are_among st.kernel.queue names.items) (are_distinct names.items) (second_so (nat_le (length names.items) 256) _ can) in
       record { sound = assumption s; lighter = λ own. omega (arith, polled names.items st.kernel.queue parts.0 parts.1, ltb-true 0 (length names.items) own) })))
@@ -224,8 +224,8 @@ module _ {l : Limits} {st : System} (s : Sound l st) where
 start_sound : (l : Limits) → Sound l (start l)
 start_sound l = record {
   base = record { limits = refl; apart = λ e is. absurd (cc); some_free = λ yes. absurd (cc); unworn = λ below some. below };
-  count = length-replicate {A = Thread} l.workers resting;
-  begun = λ t at opens. (let same : resting ≡ t = get-replicate l.workers 0 resting t at in cc);
+  count = length-replicate {A = Thread} l.workers resting_thread;
+  begun = λ t at opens. (let same : resting_thread ≡ t = get-replicate l.workers 0 resting_thread t at in cc);
 }
 
 module _ (core : CoreLaws) (laws : EveryInterleavingIsARun) (l : Limits) (alone : l.slots ≡ 1) where

@@ -1,7 +1,7 @@
 -- What holds after any list of steps, and what no thread ever finds.
 pub mod Programs
 use Rattle.world.{specs.{declared.limits.Limits.Limits, Headline.EveryRunHolds, CoreLaws.CoreLaws, States.{opening, unused as unused_place}}, proofs.Headline.Ends.Pairs.Holders.{Events.{holds_after, Lists.{get-replicate, get_beside}}, turns_after, turns_on}}
-use Rattle.interleaving.specs.{Likeness.{EveryInterleavingIsARun, EveryStepIsFollowed, NoActInVain, exchanges, taken_word}, Threads.{ProgramsAreThese, gone, resting, run, start}}
+use Rattle.interleaving.specs.{Likeness.{EveryInterleavingIsARun, EveryStepIsFollowed, NoActInVain, exchanges, taken_word}, Threads.{ProgramsAreThese, gone, resting_thread, run, start}}
 use Rattle.std.proofs.lemmas.Option.{option_and_then_some, same_Some}
 use Programs.*
 
@@ -13,7 +13,7 @@ programs_are_these = record {
   gone = λ other woke. grind arith;
   quiet = λ woke. grind arith;
   again = λ woke. grind arith;
-  ended = λ given. grind arith;
+  ended = λ slot_given. grind arith;
   opening = refl;
 }
 
@@ -82,7 +82,7 @@ module _ (st : System) (t : Thread) (c : Connection) (workers : List WorkerState
 
   -- the slot is released, and the opening is over
   leaves_half : st.word ≡ taken_word 1 → st.place ≡ Some c → st.entry ≡ t.generation
-      → Follows (left_of (Release ∷ []) st.word) (exchange_made word.release st.word ∷ []) half_world (Acts 0) (with_thread (released st t.generation) 0 (goes_on t []))
+      → Follows (left_of (Release ∷ []) st.word) (exchange_made word.release st.word ∷ []) half_world (Acts 0) (with_thread (released st t.generation) 0 (then_acts t []))
   leaves_half is at own = rw (is, half.tickets) (record {
     events = [];
     world = half_world;
@@ -91,21 +91,21 @@ module _ (st : System) (t : Thread) (c : Connection) (workers : List WorkerState
     shows = λ more. refl;
   })
     where
-      over : (i : ℕ) (u : Thread) → slice_get (slice_set st.threads 0 (goes_on t [])) i ≡ Some u → (i ≡ 0) ⊎ (i ≢ 0)
+      over : (i : ℕ) (u : Thread) → slice_get (slice_set st.threads 0 (then_acts t [])) i ≡ Some u → (i ≡ 0) ⊎ (i ≢ 0)
           → WorkerFor st.limits.budget st.place (opened_slot t.generation c) workers i u
       over i u there (inl first) =
-          let it : u ≡ goes_on t [] = cc (get-set_same st.threads 0 t (goes_on t []) half.first) in
+          let it : u ≡ then_acts t [] = cc (get-set_same st.threads 0 t (then_acts t []) half.first) in
           record { worker = idle_worker; there = rw first half.worker; like = rw it (Rests refl) }
       over i u there (inr other) =
-          let rest = after_set st.threads workers (goes_on t []) half.others i u other there in
+          let rest = after_set st.threads workers (then_acts t []) half.others i u other there in
           record { worker = idle_worker; there = rest.1; like = rw rest.0 (Rests refl) }
 
   goes_half : {todo : List Act} → Stage st.word st.place st.entry t c todo → Kept (Follows (left_of todo st.word) (made_all (first_kinds todo) st.word) half_world (Acts 0)) (acts st 0 t todo)
-  goes_half (Registered notes is at out) = rw is (kept_some (stays_half (taken_word notes) st.place st.entry (goes_on t (drop 2 open_slot)) refl (Adopted notes refl at out) refl))
-  goes_half (Adopted notes is at out) = kept_some (stays_half st.word st.place t.generation (goes_on t (drop 3 open_slot)) refl (Entered notes is at out refl) refl)
-  goes_half (Entered notes is at out own) = rw is (kept_some (stays_half (taken_word 0) st.place st.entry (goes_on t (drop 4 open_slot)) refl (Emptied refl at out own) refl))
+  goes_half (Registered notes is at out) = rw is (kept_some (stays_half (taken_word notes) st.place st.entry (then_acts t (drop 2 open_slot)) refl (Adopted notes refl at out) refl))
+  goes_half (Adopted notes is at out) = kept_some (stays_half st.word st.place t.generation (then_acts t (drop 3 open_slot)) refl (Entered notes is at out refl) refl)
+  goes_half (Entered notes is at out own) = rw is (kept_some (stays_half (taken_word 0) st.place st.entry (then_acts t (drop 4 open_slot)) refl (Emptied refl at out own) refl))
   goes_half (Emptied is at out own) = kept_some (stays_half st.word t.out st.entry (record t { out = None; todo = drop 5 open_slot }) refl (Placed is out own) refl)
-  goes_half (Placed is at own) = rw is (kept_some (stays_half (taken_word 1) st.place st.entry (goes_on t (drop 6 open_slot)) refl (Posted refl at own) refl))
+  goes_half (Placed is at own) = rw is (kept_some (stays_half (taken_word 1) st.place st.entry (then_acts t (drop 6 open_slot)) refl (Posted refl at own) refl))
   goes_half (Posted is at own) = kept_some (leaves_half is at own)
 
   poller_acts : {X : Type 0} → poller_rests st ≡ true → X
@@ -206,8 +206,8 @@ went laws (s ∷ steps) w st to like turns ran = option_and_then_some _ _ _ ran 
 
 at_first : (l : Limits) → l.slots ≡ 1 → Like (start l) (opening l)
 at_first l one = IsSettled (unused_place l.generation) (replicate l.workers idle_worker) (rw one refl) (settled refl refl (λ yes. refl) (λ i t there.
-    let same = get-replicate l.workers i resting t there in
-    record { worker = idle_worker; there = get_beside l.workers i resting t idle_worker there; like = rw (← same) (Rests refl) }))
+    let same = get-replicate l.workers i resting_thread t there in
+    record { worker = idle_worker; there = get_beside l.workers i resting_thread t idle_worker there; like = rw (← same) (Rests refl) }))
 
 pub every_interleaving : CoreLaws → EveryRunHolds → EveryInterleavingIsARun
 unfolding at_first

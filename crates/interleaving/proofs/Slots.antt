@@ -1,6 +1,6 @@
 -- Each slot of a server can be looked at alone.
 pub mod Steps
-use Rattle.interleaving.{proofs.Runs.run_on, specs.{Likeness.EveryInterleavingIsARun, Slots.{Accept, Acts, AllStandApart, Calls, Network, Poll, Put, SeesAll, SlotsStandApart, Spurious, Sweep, Tick, Vanish, may, polled, run, shared, start, step, unqueued}, Threads.resting}}
+use Rattle.interleaving.{proofs.Runs.run_on, specs.{Likeness.EveryInterleavingIsARun, Slots.{Accept, Acts, AllStandApart, Calls, Network, Poll, Put, SeesAll, SlotsStandApart, Spurious, Sweep, Tick, Vanish, may, polled, run, shared, start, step, unqueued}, Threads.resting_thread}}
 use Rattle.std.{proofs.{Common.{Vec, le-leb, leb-true, replicate, subst, ◌-◌}, lemmas.Option.option_and_then_some}, specs.{Global.Global, Prelude.IfSome}}
 use denote.RawPtr.{null_ptr}
 use Steps.*
@@ -61,7 +61,7 @@ module _ (m : Many) (between : Between m) where
       let n : Many = record m { tickets = c.rest ++ record c.ticket { hand = None } ∷ [] } in
       quiet (Put i s) n refl (λ t. refl) (λ t. framed m n t refl refl refl (same c is t (cases_eq t c.ticket.slot))) between.apart between.fronts)
     where
-      same : (c : Taken) → first_of (suits i (Some s)) m.tickets ≡ Some c → (t : ℕ) → (t ≡ c.ticket.slot) ⊎ (t ≢ c.ticket.slot)
+      same : (c : Taken) → first_ticket (suits i (Some s)) m.tickets ≡ Some c → (t : ℕ) → (t ≡ c.ticket.slot) ⊎ (t ≢ c.ticket.slot)
           → tickets_at t (c.rest ++ record c.ticket { hand = None } ∷ []) ≡ tickets_at t m.tickets
       same c is t (inl here) =
           let it : Alone t m.tickets c = taken_here _ _ _ is t (sym here) (between.one_ticket t) in
@@ -74,7 +74,7 @@ module _ (m : Many) (between : Between m) where
   same_threads : (b : Bool) (place : System) (names : List Name) → (if b then unqueued place names else place).threads ≡ place.threads
   same_threads b place names = grind arith
 
-  module _ (p : ℕ) (reports : List Report) (rested : rests m p ≡ true) (few : length reports ≤ 256) (empty : (m.fronts p).batch ≡ []) (asked : are_queued m p reports ≡ true) where
+  module _ (p : ℕ) (reports : List Report) (rested : thread_rests m p ≡ true) (few : length reports ≤ 256) (empty : (m.fronts p).batch ≡ []) (asked : are_queued m p reports ≡ true) where
     -- the poller has no program at its slots
     idle : (s : ℕ) → m.server.owner s ≡ p → (s ≡ m.busy_at p) ⊎ (s ≢ m.busy_at p) → rests_at (slice_get (m.places s).threads 0) ≡ true
     idle s own (inl here) =
@@ -118,7 +118,7 @@ module _ (m : Many) (between : Between m) where
               (λ e. record { listener = grind arith; share = (between.fronts p).share; own = own_reports m p reports asked });
         }
 
-  polls : (p : ℕ) (reports : List Report) → rests m p ≡ true → Kept (Next m (Poll p reports)) (shared m (Poll p reports))
+  polls : (p : ℕ) (reports : List Report) → thread_rests m p ≡ true → Kept (Next m (Poll p reports)) (shared m (Poll p reports))
   polls p reports rested = kept_guard _ _ (λ h.
       let few = and_parts _ _ h in
       let parts = and_parts _ _ few.1 in
@@ -135,7 +135,7 @@ module _ (m : Many) (between : Between m) where
   next (Deliver p) = kept_when _ _ (λ rested. delivers p (m.fronts p).batch refl)
   next (Sweep p s) = kept_when (may m (Sweep p s)) _ (λ h. by_still m between (Sweep p s) _ (λ t own e. e) (λ q. leaves (slot_of m s) q alone.Sweep refl refl refl))
   next (Open p s) = kept_when _ _ (λ h. opens m between p s h)
-  next (Begin i from most) = kept_when _ _ (λ rested. begins m between i from most rested (first_of (suits i from) m.tickets) refl)
+  next (Begin i from most) = kept_when _ _ (λ rested. begins m between i from most rested (first_ticket (suits i from) m.tickets) refl)
   next (Put i s) = puts i s
   next (Acts i) = by_thread m between (Acts i) i _ (λ t own e. e) (λ q. leaves (slot_of m (m.busy_at i)) q (alone.Acts (rank_at m (m.busy_at i) i)) refl refl refl)
   next (Calls i r) = by_thread m between (Calls i r) i _ (λ t own e. e) (λ q. leaves (slot_of m (m.busy_at i)) q (alone.Calls (rank_at m (m.busy_at i) i) r) refl refl refl)
@@ -161,7 +161,7 @@ pub record Went (server : Server) (m : Many) (steps : List Step) (to : Many) : T
   pub reached : Reached server to
   pub each : (s : ℕ) → Seen m steps to s
 
-rests_first : (n i : ℕ) → i < n → rests_at (slice_get (replicate n resting) i) ≡ true
+rests_first : (n i : ℕ) → i < n → rests_at (slice_get (replicate n resting_thread) i) ≡ true
 rests_first zero i some = absurd (omega arith)
 rests_first (suc n) zero some = refl
 rests_first (suc n) (suc i) some = rests_first n i (omega arith)

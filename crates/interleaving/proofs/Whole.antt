@@ -1,6 +1,6 @@
 -- A whole server, left alone, comes to rest: each of its own steps makes it lighter.
 use Rattle.claims.specs.Words.{one}
-use Rattle.interleaving.{proofs.{Rest.Acts.Weights.{most_at, one_less, polled as left_queue}, Runs.run_on, Slots.{Reached, between, first, goes, next, reach, Steps.{Next, Stood, queued, queued_rest, set_here, set_there, stood, turn_of}}}, specs.{Likeness.EveryInterleavingIsARun, Rest.{LeftAloneItEnds, client_weight, most}, Slots.{Accept, Acts, Begin, Calls, Deed, Deliver, Drop, Front, Listener, Many, Of, Open, Poll, Put, Report, Sees, Server, Step, Taken, Ticket, Waker, answered, are_queued, besides, deed, delivering, first_of, in_hand, is_listener, makes, may, may_accept, names_at, one_slot, opening, polled, rank_at, rests, run, set, shared, slot_of, start, step, steps_at, suits, tickets_at, with_front, written}, Threads.System, Whole.{LeftAloneServersEnd, accepted_weight, front_weight, hand_weight, is_own, is_waker, report_weight, wakes, weight}}}
+use Rattle.interleaving.{proofs.{Rest.Acts.Weights.{most_at, one_less, polled as left_queue}, Runs.run_on, Slots.{Reached, between, first, goes, next, reach, Steps.{Next, Stood, queued, queued_rest, set_here, set_there, stood, turn_of}}}, specs.{Likeness.EveryInterleavingIsARun, Rest.{LeftAloneItEnds, client_weight, most}, Slots.{Accept, Acts, Begin, Calls, Deed, Deliver, Drop, Front, Listener, Many, Of, Open, Poll, Put, Report, Sees, Server, Step, Taken, Ticket, Waker, accept_answered, are_queued, besides, deed, delivering, first_ticket, in_hand, is_listener, makes, may, may_take_one, names_at, one_slot, opening_at_slot, polled, rank_at, thread_rests, run, set_to, shared, slot_of, start, step, steps_at, suits, tickets_at, set_front, written}, Threads.System, Whole.{LeftAloneServersEnd, accepted_weight, front_weight, hand_weight, is_own_of_server, is_waker, report_weight, wakes_in, server_weight}}}
 use Rattle.kernel_model.specs.{Kernel.reported, Names.without_names, declared.accepting.Accepting.{Accepting, TheVariants.{Accepted, Again, Blocked, Starved}}}
 use Rattle.std.{proofs.{Common.{Bool, List, None, Option, Some, [], ap, arith, drop, eq-eqb, false, if◌then◌else◌, inl, inr, length, length-append, ltb-true, map, nat_le, nat_lt, ne_eqb, not, option_map, refl, suc, sym, true, zero, ℕ, ◌&&◌, ◌*◌, ◌++◌, ◌+◌, ◌-◌, ◌<◌, ◌==◌, ◌∙◌, ◌∷◌, ◌≡◌, ◌≢◌, ◌≤◌, ◌⊎◌}, lemmas.{Bool.{and_parts, cases_eq, not-true}, List.length-drop, Option.{option_and_then_some, same_Some}}}, specs.{Cmp.second_so, List.{list_all, list_any}}}
 use Rattle.token.specs.declared.name.Name.{Name, TheVariants.Listener as listener_name}
@@ -107,16 +107,16 @@ module _ (law : EveryInterleavingIsARun) (ends : LeftAloneItEnds) (server : Serv
     fronts_of f = total (λ p. front_weight m.server.limits (f p)) (numbers_below m.server.limits.workers)
 
     abbrev Lighter : Step → Many → Type 0
-    Lighter x n = Next m x n → weight n + 1 ≤ weight m + 2 * wakes x
+    Lighter x n = Next m x n → server_weight n + 1 ≤ server_weight m + 2 * wakes_in x
 
     front_changed : (p : ℕ) (new : Front) → p < m.server.limits.workers
-        → fronts_of (set m.fronts p new) + front_weight m.server.limits (m.fronts p) ≡ fronts_of m.fronts + front_weight m.server.limits new
+        → fronts_of (set_to m.fronts p new) + front_weight m.server.limits (m.fronts p) ≡ fronts_of m.fronts + front_weight m.server.limits new
     front_changed p new below =
-        differs_at m.server.limits.workers p (λ i. front_weight m.server.limits (set m.fronts p new i)) (λ i. front_weight m.server.limits (m.fronts i)) below
+        differs_at m.server.limits.workers p (λ i. front_weight m.server.limits (set_to m.fronts p new i)) (λ i. front_weight m.server.limits (m.fronts i)) below
         (λ i other. ap (front_weight m.server.limits) (set_there m.fronts p i new other))
         ∙ ap (λ (f : Front). fronts_of m.fronts + front_weight m.server.limits f) (set_here m.fronts p new)
 
-    is_thread : (i : ℕ) → rests m i ≡ true → i < m.server.limits.workers
+    is_thread : (i : ℕ) → thread_rests m i ≡ true → i < m.server.limits.workers
     is_thread i rested = ltb-true _ _ (and_parts _ _ rested).0
 
     -- a step that each slot sees as these steps
@@ -161,7 +161,8 @@ module _ (law : EveryInterleavingIsARun) (ends : LeftAloneItEnds) (server : Serv
 
     -- one own step of a slot, which may make a ticket
     by_one : (x : Step) (d : Deed) (made : System → Many) → IsAt x (λ s. steps_at s (Some d)) → list_all slot.is_own d.own ≡ true → length d.own ≡ 1
-        → ((q : System) → slots_of (made q) + 1 ≤ slots_of m + 0 → total hand_weight (written m d q).tickets ≤ total hand_weight m.tickets + 1 → weight (made q) + 1 ≤ weight m + 2 * wakes x)
+        → ((q : System) → slots_of (made q) + 1 ≤ slots_of m + 0
+        → total hand_weight (written m d q).tickets ≤ total hand_weight m.tickets + 1 → server_weight (made q) + 1 ≤ server_weight m + 2 * wakes_in x)
         → Kept (Lighter x) (when (nat_lt d.slot m.server.limits.slots) (option_map made (alone.run (slot_of m d.slot) d.own)))
     by_one x d made is are one_step leads = kept_when _ _ (λ within. kept_map _ _ (λ q ran it.
         leads q (one_lighter x (made q) d q it is ran within are one_step) (made_few x (made q) d q it is ran within)))
@@ -177,13 +178,13 @@ module _ (law : EveryInterleavingIsARun) (ends : LeftAloneItEnds) (server : Serv
     -- one front and the backlog
     fronts_only : (x : Step) (p : ℕ) (new : Front) (b : ℕ) → p < m.server.limits.workers → IsAt x (λ s. [])
         → ((1 + A) * b + front_weight m.server.limits new) + 1 ≤ (1 + A) * m.backlog + front_weight m.server.limits (m.fronts p)
-        → Lighter x (record (with_front m p new) { backlog = b })
+        → Lighter x (record (set_front m p new) { backlog = b })
     fronts_only x p new b below none less it =
-        omega (arith, slots_same x (record (with_front m p new) { backlog = b }) it none, front_changed p new below, less)
+        omega (arith, slots_same x (record (set_front m p new) { backlog = b }) it none, front_changed p new below, less)
 
     opens : (p s : ℕ) → may m (Open p s) ≡ true → Kept (Lighter (Open p s)) (makes m (Open p s) (deed m (Open p s)))
     opens p s allowed = kept_when _ _ (λ within. kept_map _ _ (λ q ran it.
-        let d : Deed = record { slot = s; thread = p; own = opening } in
+        let d : Deed = record { slot = s; thread = p; own = opening_at_slot } in
         let n = besides m (Open p s) (written m d q) in
         let slots = slots_lighter (Open p s) n d q it (λ t own e. e) ran within 3 ((1 + client_weight m.server.limits) + 17) (opened q ran) in
         let hands = made_few (Open p s) n d q it (λ t own e. e) ran within in
@@ -191,10 +192,10 @@ module _ (law : EveryInterleavingIsARun) (ends : LeftAloneItEnds) (server : Serv
         let fronts = front_changed p (record (m.fronts p) { accepted = false; opened = (m.fronts p).opened + 1 }) (is_thread p (and_parts _ _ allowed).0) in
         omega (arith, slots, hands, rw had at fronts)))
       where
-        opened : (q : System) → alone.run (slot_of m s) opening ≡ Some q → slot.weight q + 3 ≤ slot.weight (slot_of m s) + ((1 + client_weight m.server.limits) + 17)
-        opened q ran = option_and_then_some (λ (st : System). alone.run st (drop 1 opening)) (alone.step (slot_of m s) alone.Connect) q ran (λ st is rest.
+        opened : (q : System) → alone.run (slot_of m s) opening_at_slot ≡ Some q → slot.weight q + 3 ≤ slot.weight (slot_of m s) + ((1 + client_weight m.server.limits) + 17)
+        opened q ran = option_and_then_some (λ (st : System). alone.run st (drop 1 opening_at_slot)) (alone.step (slot_of m s) alone.Connect) q ran (λ st is rest.
             let before = run_on (r.own s) (alone.Connect ∷ []) (alone.start (one_slot server.limits s)) (slot_of m s) (r.leads s) ∙ rw is refl in
-            let less = ends (one_slot server.limits s) (r.own s ++ alone.Connect ∷ []) (drop 1 opening) st q refl before refl rest in
+            let less = ends (one_slot server.limits s) (r.own s ++ alone.Connect ∷ []) (drop 1 opening_at_slot) st q refl before refl rest in
             let more = kept_at _ _ is (connects_weigh (slot_of m s)) in
             omega (arith, less, more, most_at (most length) m.server.limits.lead.own s []))
 
@@ -212,7 +213,7 @@ module _ (law : EveryInterleavingIsARun) (ends : LeftAloneItEnds) (server : Serv
         by_one (Deliver p) d (λ q. besides m (Deliver p) (written m d q)) sees refl refl (λ q slots hands. omega (arith, slots, hands, front_changed p new below, weighs))
 
     -- a turn, with the ticket c
-    begins : (i : ℕ) (from : Option ℕ) (most : ℕ) → nat_le 4 most ≡ true → (o : Option Taken) → first_of (suits i from) m.tickets ≡ o
+    begins : (i : ℕ) (from : Option ℕ) (most : ℕ) → nat_le 4 most ≡ true → (o : Option Taken) → first_ticket (suits i from) m.tickets ≡ o
         → Kept (Lighter (Begin i from most)) (makes m (Begin i from most) (option_map (turn_of m i most) o))
     begins i from most four None is = kept_none
     begins i from most four (Some c) is =
@@ -222,14 +223,14 @@ module _ (law : EveryInterleavingIsARun) (ends : LeftAloneItEnds) (server : Serv
         rw is (omega (arith, rw is at slots, taken_weighs (stood (suits i from) m.tickets c is))))
 
     puts : (i s : ℕ) → Kept (Lighter (Put i s)) (shared m (Put i s))
-    puts i s = kept_map _ (first_of (suits i (Some s)) m.tickets) (λ c is it.
+    puts i s = kept_map _ (first_ticket (suits i (Some s)) m.tickets) (λ c is it.
         let taken = stood (suits i (Some s)) m.tickets c is in
         let slots = slots_same (Put i s) (record m { tickets = c.rest ++ record c.ticket { hand = None } ∷ [] }) it (λ t own e. e) in
         let held : hand_weight c.ticket ≡ 1 = (let fits = taken.passes in grind arith) in
         omega (arith, slots, held, total_push hand_weight c.rest (record c.ticket { hand = None }), taken_weighs taken))
 
     accepts : (p : ℕ) (reply : Accepting) → slot.is_settled reply ≡ true → p < m.server.limits.workers
-        → may_accept m.server p (m.fronts p) ≡ true → Kept (Lighter (Accept p reply)) (answered m p reply)
+        → may_take_one m.server p (m.fronts p) ≡ true → Kept (Lighter (Accept p reply)) (accept_answered m p reply)
     accepts p Accepted own below can =
         let f = m.fronts p in
         let none : f.accepted ≡ false = not-true f.accepted (and_parts _ _ (second_so _ _ can)).0 in
@@ -261,14 +262,14 @@ module _ (law : EveryInterleavingIsARun) (ends : LeftAloneItEnds) (server : Serv
                 rw own less
             by false other = rw other (omega arith)
 
-    lighter : (x : Step) → is_own x ≡ true → Kept (Lighter x) (step m x)
+    lighter : (x : Step) → is_own_of_server x ≡ true → Kept (Lighter x) (step m x)
     lighter (Poll p reports) own = kept_when _ _ (λ rested. polls p reports (ltb-true _ _ own) (is_thread p rested))
     lighter (Deliver p) own = kept_when _ _ (λ rested. delivers p (is_thread p rested) (m.fronts p).batch refl)
     lighter (Accept p reply) own = kept_when _ _ (λ rested. kept_when _ _ (λ may. accepts p reply own (is_thread p rested) may))
     lighter (Drop p) own = kept_when _ _ (λ rested. kept_guard _ _ (λ had.
         fronts_only (Drop p) p (record (m.fronts p) { accepted = false }) m.backlog (is_thread p rested) (λ s own e. e) (rw had (omega arith))))
     lighter (Open p s) own = kept_when _ _ (λ may. opens p s may)
-    lighter (Begin i from most) own = kept_when _ _ (λ rested. begins i from most own (first_of (suits i from) m.tickets) refl)
+    lighter (Begin i from most) own = kept_when _ _ (λ rested. begins i from most own (first_ticket (suits i from) m.tickets) refl)
     lighter (Put i s) own = puts i s
     lighter (Acts i) own = threads (Acts i) i (alone.Acts (rank_at m (m.busy_at i) i) ∷ []) (λ t own e. e) refl refl
     lighter (Calls i reply) own = threads (Calls i reply) i (alone.Calls (rank_at m (m.busy_at i) i) reply ∷ []) (λ t own e. e) (rw own refl) refl
@@ -276,7 +277,8 @@ module _ (law : EveryInterleavingIsARun) (ends : LeftAloneItEnds) (server : Serv
 
   -- A list of steps
 
-  rests_on : (own : List Step) (m next : Many) → Reached server m → list_all is_own own ≡ true → run m own ≡ Some next → length own + weight next ≤ weight m + 2 * total wakes own
+  rests_on : (own : List Step) (m next : Many) → Reached server m → list_all is_own_of_server own ≡ true → run m own ≡ Some next
+      → length own + server_weight next ≤ server_weight m + 2 * total wakes_in own
   rests_on [] m next_ r are ran = rw (← same_Some _ _ ran) (omega arith)
   rests_on (x ∷ xs) m to r are ran = option_and_then_some _ _ _ ran (λ n is rest.
       let parts = and_parts _ _ are in

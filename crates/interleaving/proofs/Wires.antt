@@ -20,11 +20,12 @@ free_none st w (IsHalfOpen t c workers is half) turns (suc n) free some =
 
 -- A list of steps
 
-abbrev Went : Wired → Delay → List (Option Registered) → List Name → List wired.Step → Wired → Type 0
+abbrev Went : WiredSystem → Delay → List (Option Registered) → List Name → List wired.Step → WiredSystem → Type 0
 Went w d e q steps to = Led (seen_as w.system e q (batch_there w.poll d.early w.system.batch)) (happened w d steps) to (delay w d steps)
 
 -- a step, and then the rest
-one_more : (x : wired.Step) (steps : List wired.Step) (w v to : Wired) (d : Delay) (e : List (Option Registered)) (q : List Name) → Joined (rim w.system) w.wires w.poll d e q → wired.step w x ≡ Some v
+one_more : (x : wired.Step) (steps : List wired.Step) (w v to : WiredSystem) (d : Delay) (e : List (Option Registered)) (q : List Name)
+    → Joined (rim w.system) w.wires w.poll d e q → wired.step w x ≡ Some v
     → (led : Led (seen_as w.system e q (batch_there w.poll d.early w.system.batch)) (comes d.late (catching w x) ++ happens w d x) v (delay_after w d x))
     → Went v (delay_after w d x) led.there led.queue steps to → Went w d e q (x ∷ steps) to
 one_more x steps w v to d e q j is led more =
@@ -37,7 +38,7 @@ one_more x steps w v to d e q j is led more =
     record { there = more.there; queue = more.queue; leads = rw (shown, last) leads; joined = rw last more.joined }
 
 module _ (core : CoreLaws) (law : EveryInterleavingIsARun) (l : Limits) (one : l.slots ≡ 1) where
-  went : (steps : List wired.Step) (w to : Wired) (d : Delay) (e : List (Option Registered)) (q : List Name) → Joined (rim w.system) w.wires w.poll d e q
+  went : (steps : List wired.Step) (w to : WiredSystem) (d : Delay) (e : List (Option Registered)) (q : List Name) → Joined (rim w.system) w.wires w.poll d e q
       → (is_none w.poll || poller_rests w.system) ≡ true → (made : List alone.Step) → run (alone.start l) made ≡ Some (seen_as w.system e q (batch_there w.poll d.early w.system.batch))
       → wired.run w steps ≡ Some to → Went w d e q steps to
   went [] w to d e q j rested made ran h = rw (some_is h) (record { there = e; queue = q; leads = refl; joined = j })
@@ -53,7 +54,7 @@ module _ (core : CoreLaws) (law : EveryInterleavingIsARun) (l : Limits) (one : l
 -- What is so after any list of steps
 
 -- a report that is coming will be passed on
-coming_told_way : (w : Wired) (side : Side) (r : Registered) → coming w.system.kernel.queue w.poll (End r.token) ≡ true → WillBeTold (way w side r)
+coming_told_way : (w : WiredSystem) (side : Side) (r : Registered) → coming w.system.kernel.queue w.poll (End r.token) ≡ true → WillBeTold (way w side r)
 coming_told_way w side r h = elim (or_cases (has (End r.token) w.system.kernel.queue) (soon w.poll (End r.token)) h) [ inl queued ↦ inl queued | inr later ↦ inr (by w.poll later) ]
   where
     by : (poll : Option Polling) → soon poll (End r.token) ≡ true
@@ -62,17 +63,17 @@ coming_told_way w side r h = elim (or_cases (has (End r.token) w.system.kernel.q
     by (Some p) later = let parts = and_parts (has (End r.token) p.left) (p.reading (End r.token)) later in rw parts.0 (0, omega arith, parts.1)
 
 -- of an end, with its wire
-end_holds : (w : Wired) (g : ℕ) (e x : EndState) (side : Side) (late : List Change)
+end_holds : (w : WiredSystem) (g : ℕ) (e x : EndState) (side : Side) (late : List Change)
     → EndOk e (coming w.system.kernel.queue w.poll (End (token g side))) (w.wires side) late x
     → EndHolds w side late (record { token = token g side; socket = e })
 end_holds w g e x side late ok =
     let r : Registered = record { token = token g side; socket = e } in
     record {
       coming = λ some. coming_told_way w side r (told_soon ok some);
-      nothing_missed = λ reads told. (let it = missed ok reads told in record { armed = it.0; coming = λ some. coming_told_way w side r (it.1 some) });
+      nothing_missed = λ reads word_told. (let it = missed ok reads word_told in record { armed = it.0; coming = λ some. coming_told_way w side r (it.1 some) });
     }
 
-module _ (w : Wired) (d : Delay) (e : List (Option Registered)) (q b : List Name) where
+module _ (w : WiredSystem) (d : Delay) (e : List (Option Registered)) (q b : List Name) where
   -- once all that is late has come
   caught_up : {o : Option ℕ} → Both (rim w.system) w.wires w.poll d.late e o → (queue : List Name)
       × (run (seen_as w.system e q b) (comes d.late (Client ∷ Target ∷ [])) ≡ Some (seen_as w.system w.system.kernel.ends queue b))

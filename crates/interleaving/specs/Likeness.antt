@@ -7,7 +7,7 @@ use Rattle.kernel_model.specs.{Ends.is_nonempty, declared.both.Descriptors.Descr
 use Rattle.relay_core.specs.Pairs.{is_live, verdict}
 use Rattle.claims.specs.{Words.{StepKind, WordState, made as exchange_made, some_wait, word_after}, declared.view.Exchange.Exchange}
 use Rattle.world.specs.{Acts.busy, Headline.HeadlineHolds, Slots.{SlotState, WorkerState, is_by_worker}, States.State, Steps.{may_release, step as machine_step}, Words.{steps, word_at}, declared.{actors.{Holder.TheVariants.{By, Nobody}, Ticket.Ticket}, connection.Connection.Connection, event.{Event.Event, Reported.Reported}, limits.Limits.Limits}}
-use Rattle.interleaving.specs.Threads.{Accept, Act, Acts, Adopt, Calls, Claim, Connect, Deliver, Discard, Drop, Network, Poll, Post, PutIn, Release, Retire, Spurious, Step, Sweep, System, TakeNotes, TakeOut, Thread, Tick, Vanish, again, ended, open_slot, plan, run, start, step, turn}
+use Rattle.interleaving.specs.Threads.{Accept, Act, Acts, Adopt, Calls, Claim, Connect, Deliver, Discard, Drop, Network, Poll, Post, PutIn, Release, Retire, Spurious, Step, Sweep, System, TakeNotes, TakeOut, Thread, Tick, Vanish, again, end_acts, open_slot, plan, run, start, step, turn}
 use Rattle.token.specs.declared.name.Name.TheVariants as name
 use Rattle.claims.specs.Words as word
 use Rattle.world.specs.declared.actors.Doing.TheVariants as doing
@@ -100,13 +100,13 @@ pub data HolderLike (budget : ℕ) (place : Option Connection) (p : SlotState) (
 -- The thread i, which is t, is as far as the machine's worker i, which is k, by the rest of its program
 pub data ThreadLike (budget : ℕ) (place : Option Connection) (p : SlotState) (i : ℕ) (t : Thread) (k : WorkerState)
     : List Act → Type 0 where
-  Rests : k ≡ machine.resting → ThreadLike budget place p i t k []
-  Opens : i ≡ 0 → k ≡ machine.resting → ThreadLike budget place p i t k open_slot
+  Rests : k ≡ machine.resting_worker → ThreadLike budget place p i t k []
+  Opens : i ≡ 0 → k ≡ machine.resting_worker → ThreadLike budget place p i t k open_slot
   Tries : t.left ≤ budget → k ≡ busy (doing.Tries (ticket t.generation)) → ThreadLike budget place p i t k turn
   IsHolder : {todo : List Act} (c : Connection) (more : ℕ) → Held p i t.generation (Some c) → k ≡ busy (doing.Holds 0 more)
       → HolderLike budget place p t c more todo → ThreadLike budget place p i t k todo
-  HasClosed : Held p i t.generation None → place ≡ None → k ≡ busy (doing.Closed 0) → ThreadLike budget place p i t k (drop 1 ended)
-  HasRetired : p.generation ≡ t.generation → k ≡ busy (doing.Retired 0) → ThreadLike budget place p i t k (drop 2 ended)
+  HasClosed : Held p i t.generation None → place ≡ None → k ≡ busy (doing.Closed 0) → ThreadLike budget place p i t k (drop 1 end_acts)
+  HasRetired : p.generation ≡ t.generation → k ≡ busy (doing.Retired 0) → ThreadLike budget place p i t k (drop 2 end_acts)
 
 -- the machine has a worker i that is as far as the thread i
 pub record WorkerFor (budget : ℕ) (place : Option Connection) (p : SlotState) (workers : List WorkerState) (i : ℕ) (t : Thread)
@@ -119,8 +119,8 @@ abbrev pub WorkersFor : ℕ → Option Connection → SlotState → List WorkerS
 WorkersFor budget place p workers threads =
     (i : ℕ) (t : Thread) → slice_get threads i ≡ Some t → WorkerFor budget place p workers i t
 
-abbrev pub ends_of : SlotState → Option Descriptors
-ends_of p = option_map (λ (c : Connection). c.ends) p.connection
+abbrev pub descriptors_of : SlotState → Option Descriptors
+descriptors_of p = option_map (λ (c : Connection). c.ends) p.connection
 
 -- The machine that has what the threads have, and in it this slot p, this entry in its table, tickets of these
 -- generations, and these workers
@@ -144,7 +144,7 @@ machine_of st p entry tickets workers = record {
 -- No opening is half way: the word and the place are those of the slot p, and each thread is as far as its worker.
 -- While the connection is out with the holder of the slot, the place is empty
 pub record Settled (st : System) (p : SlotState) (workers : List WorkerState) : Type 0 where
-  pub ends : st.ends ≡ ends_of p
+  pub ends : st.ends ≡ descriptors_of p
   pub word : st.word ≡ word_at p
   pub place : is_by_worker p.holder ≡ false → st.place ≡ p.connection
   pub threads : WorkersFor st.limits.budget st.place p workers st.threads
@@ -173,12 +173,12 @@ opened_slot g c = record { generation = g; connection = Some c; holder = Nobody;
 -- each thread but the poller's rests, and its worker rests too
 abbrev pub OthersRest : List Thread → List WorkerState → Type 0
 OthersRest threads workers =
-    (i : ℕ) (t : Thread) → i ≢ 0 → slice_get threads i ≡ Some t → (t.todo ≡ []) × (slice_get workers i ≡ Some machine.resting)
+    (i : ℕ) (t : Thread) → i ≢ 0 → slice_get threads i ≡ Some t → (t.todo ≡ []) × (slice_get workers i ≡ Some machine.resting_worker)
 
 -- An opening is half way: the machine has made it, and only the poller's thread t has anything to do with the slot
 pub record HalfOpen (st : System) (t : Thread) (c : Connection) (workers : List WorkerState) : Type 0 where
   pub first : slice_get st.threads 0 ≡ Some t
-  pub worker : slice_get workers 0 ≡ Some machine.resting
+  pub worker : slice_get workers 0 ≡ Some machine.resting_worker
   pub others : OthersRest st.threads workers
   pub tickets : st.tickets ≡ []
   pub ends : st.ends ≡ Some c.ends

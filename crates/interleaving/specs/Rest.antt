@@ -176,7 +176,7 @@ HasStopped st = (s : Step) → is_own s ≡ true → step st s ≡ None
 -- What rest is: no thread has a program, and there is no ticket, no report, no accepted client, and no client that the
 -- poller could accept. Notes wait at most in a slot without a connection. In the machine nothing is due, and nothing
 -- could move: a connection is open and silent, or gone
-pub record AtRest (l : Limits) (steps : List Step) (st : System) : Type 0 where
+pub record SystemAtRest (l : Limits) (steps : List Step) (st : System) : Type 0 where
   pub run : IsARun l steps st
   pub programs : (i : ℕ) (t : Thread) → slice_get st.threads i ≡ Some t → t.todo ≡ []
   pub tickets : st.tickets ≡ []
@@ -192,4 +192,4 @@ pub record AtRest (l : Limits) (steps : List Step) (st : System) : Type 0 where
 -- must have a thread, leave a generation to open, and allow a turn four calls
 abbrev pub LeftAloneItRests : Type 0
 LeftAloneItRests = (l : Limits) (steps : List Step) (st : System) → l.slots ≡ 1 → 1 ≤ l.workers → l.generation < last_generation
-    → 4 ≤ l.budget → run (start l) steps ≡ Some st → HasStopped st → AtRest l steps st
+    → 4 ≤ l.budget → run (start l) steps ≡ Some st → HasStopped st → SystemAtRest l steps st

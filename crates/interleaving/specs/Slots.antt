@@ -126,11 +126,11 @@ pub data Step : Type 0 where
   Acts : ℕ → Step
   Calls : ℕ → Reply → Step
 
-abbrev pub set : {X : Type 0} → (ℕ → X) → ℕ → X → ℕ → X
-set f i x j = if j == i then x else f j
+abbrev pub set_to : {X : Type 0} → (ℕ → X) → ℕ → X → ℕ → X
+set_to f i x j = if j == i then x else f j
 
-abbrev pub with_front : Many → ℕ → Front → Many
-with_front m p front = record m { fronts = set m.fronts p front }
+abbrev pub set_front : Many → ℕ → Front → Many
+set_front m p front = record m { fronts = set_to m.fronts p front }
 
 -- Tickets
 
@@ -148,11 +148,11 @@ pub record Taken : Type 0 where
   pub rest : List Ticket
 
 -- the first ticket that passes the test, and all others
-abbrev pub first_of : (Ticket → Bool) → List Ticket → Option Taken
-first_of test [] = None
-first_of test (t ∷ ts) =
+abbrev pub first_ticket : (Ticket → Bool) → List Ticket → Option Taken
+first_ticket test [] = None
+first_ticket test (t ∷ ts) =
     if test t then Some (record { ticket = t; rest = ts })
-    else option_map (λ (c : Taken). record { ticket = c.ticket; rest = t ∷ c.rest }) (first_of test ts)
+    else option_map (λ (c : Taken). record { ticket = c.ticket; rest = t ∷ c.rest }) (first_ticket test ts)
 
 -- a new ticket of this slot, in the hand of thread i
 abbrev pub in_hand : ℕ → ℕ → ℕ → Ticket
@@ -167,8 +167,8 @@ pub record Deed : Type 0 where
   pub own : List alone.Step
 
 -- a client connects and is accepted, the opening begins, and both sockets are registered
-abbrev pub opening : List alone.Step
-opening = alone.Connect ∷ alone.Accept Accepted ∷ alone.Open ∷ alone.Acts 0 ∷ []
+abbrev pub opening_at_slot : List alone.Step
+opening_at_slot = alone.Connect ∷ alone.Accept Accepted ∷ alone.Open ∷ alone.Acts 0 ∷ []
 
 abbrev pub delivering : ℕ → List Report → Option Deed
 delivering p (Of s name ∷ rest) = Some (record { slot = s; thread = p; own = alone.Deliver ∷ [] })
@@ -181,10 +181,10 @@ deed m (Spurious s side) = Some (record { slot = s; thread = 0; own = alone.Spur
 deed m (Vanish s side) = Some (record { slot = s; thread = 0; own = alone.Vanish (reported.End 0 side) ∷ [] })
 deed m (Deliver p) = delivering p (m.fronts p).batch
 deed m (Sweep p s) = Some (record { slot = s; thread = p; own = alone.Sweep ∷ [] })
-deed m (Open p s) = Some (record { slot = s; thread = p; own = opening })
+deed m (Open p s) = Some (record { slot = s; thread = p; own = opening_at_slot })
 deed m (Begin i from most) = option_map
     (λ (c : Taken). record { slot = c.ticket.slot; thread = i; own = alone.Begin (rank_at m c.ticket.slot i) most ∷ [] })
-    (first_of (suits i from) m.tickets)
+    (first_ticket (suits i from) m.tickets)
 deed m (Acts i) = Some (record { slot = m.busy_at i; thread = i; own = alone.Acts (rank_at m (m.busy_at i) i) ∷ [] })
 deed m (Calls i r) = Some (record { slot = m.busy_at i; thread = i; own = alone.Calls (rank_at m (m.busy_at i) i) r ∷ [] })
 deed m x = None
@@ -192,18 +192,18 @@ deed m x = None
 -- the slot has become q by a deed
 abbrev pub written : Many → Deed → System → Many
 written m d q = record m {
-  places = set m.places d.slot q;
+  places = set_to m.places d.slot q;
   tickets = m.tickets ++ map (in_hand d.slot d.thread) (drop (length (tickets_at d.slot m.tickets)) q.tickets);
 }
 
 -- what a step with a deed does besides: a report leaves the batch; a client is no longer accepted, but opened; a ticket
 -- is taken. A thread that begins something at a slot is there from then on
 abbrev pub besides : Many → Step → Many → Many
-besides m (Deliver p) n = with_front n p (record (m.fronts p) { batch = drop 1 (m.fronts p).batch })
-besides m (Open p s) n = record (with_front n p (record (m.fronts p) { accepted = false; opened = (m.fronts p).opened + 1 }))
-    { busy_at = set n.busy_at p s }
+besides m (Deliver p) n = set_front n p (record (m.fronts p) { batch = drop 1 (m.fronts p).batch })
+besides m (Open p s) n = record (set_front n p (record (m.fronts p) { accepted = false; opened = (m.fronts p).opened + 1 }))
+    { busy_at = set_to n.busy_at p s }
 besides m (Begin i from most) n = unwrap_or (option_map
-    (λ (c : Taken). record n { tickets = c.rest; busy_at = set n.busy_at i c.ticket.slot }) (first_of (suits i from) m.tickets)) n
+    (λ (c : Taken). record n { tickets = c.rest; busy_at = set_to n.busy_at i c.ticket.slot }) (first_ticket (suits i from) m.tickets)) n
 besides m x n = n
 
 -- What is done at no slot, or at all
@@ -226,67 +226,67 @@ unqueued st names = record st { kernel = record st.kernel { queue = without_name
 abbrev pub polled : Many → ℕ → List Report → Many
 polled m p reports = record m {
   places = λ s. if m.server.owner s == p then unqueued (m.places s) (names_at s reports) else m.places s;
-  fronts = set m.fronts p (record (m.fronts p) {
+  fronts = set_to m.fronts p (record (m.fronts p) {
     batch = reports;
     reported = (m.fronts p).reported && not (list_any is_listener reports);
   });
 }
 
 -- a report of no slot is delivered
-abbrev pub heard : Many → ℕ → List Report → Option Many
-heard m p (Listener ∷ rest) = Some (with_front m p (record (m.fronts p) { flag = true; batch = rest }))
-heard m p (Waker ∷ rest) = Some (with_front m p (record (m.fronts p) { batch = rest }))
-heard m p batch = None
+abbrev pub other_heard : Many → ℕ → List Report → Option Many
+other_heard m p (Listener ∷ rest) = Some (set_front m p (record (m.fronts p) { flag = true; batch = rest }))
+other_heard m p (Waker ∷ rest) = Some (set_front m p (record (m.fronts p) { batch = rest }))
+other_heard m p batch = None
 
 -- as for one poller, but at the backlog of all
-abbrev pub answered : Many → ℕ → Accepting → Option Many
-answered m p Accepted = guard (nat_lt 0 m.backlog)
-    (record (with_front m p (record (m.fronts p) { accepted = true })) { backlog = m.backlog - 1 })
-answered m p Blocked = guard (m.backlog == 0) (with_front m p (record (m.fronts p) { flag = false; armed = true }))
-answered m p Again = Some m
-answered m p Starved = Some m
+abbrev pub accept_answered : Many → ℕ → Accepting → Option Many
+accept_answered m p Accepted = guard (nat_lt 0 m.backlog)
+    (record (set_front m p (record (m.fronts p) { accepted = true })) { backlog = m.backlog - 1 })
+accept_answered m p Blocked = guard (m.backlog == 0) (set_front m p (record (m.fronts p) { flag = false; armed = true }))
+accept_answered m p Again = Some m
+accept_answered m p Starved = Some m
 
 -- a client that connects is reported to each poller to which it must be
-abbrev pub told : Front → Front
-told f = record f { armed = false; reported = f.reported || f.armed }
+abbrev pub client_told : Front → Front
+client_told f = record f { armed = false; reported = f.reported || f.armed }
 
 -- the poller may open one more
-abbrev pub may_accept : Server → ℕ → Front → Bool
-may_accept server p f = (f.listens && f.flag) && (not f.accepted && nat_lt f.opened (server.share p))
+abbrev pub may_take_one : Server → ℕ → Front → Bool
+may_take_one server p f = (f.listens && f.flag) && (not f.accepted && nat_lt f.opened (server.share p))
 
 abbrev pub shared : Many → Step → Option Many
-shared m Connect = Some (record m { backlog = m.backlog + 1; fronts = λ p. told (m.fronts p) })
-shared m (Rumour p) = Some (with_front m p (record (m.fronts p) { reported = true }))
+shared m Connect = Some (record m { backlog = m.backlog + 1; fronts = λ p. client_told (m.fronts p) })
+shared m (Rumour p) = Some (set_front m p (record (m.fronts p) { reported = true }))
 shared m (Retract p) = guard ((m.fronts p).reported && m.backlog == 0)
-    (with_front m p (record (m.fronts p) { reported = false; armed = true }))
+    (set_front m p (record (m.fronts p) { reported = false; armed = true }))
 shared m Refuse = Some (record m { backlog = 0 })
-shared m (Stop p) = Some (with_front m p (record (m.fronts p) { listens = false; armed = false; reported = false }))
+shared m (Stop p) = Some (set_front m p (record (m.fronts p) { listens = false; armed = false; reported = false }))
 shared m (Poll p reports) =
     guard (nat_le (length reports) 256 && (length (m.fronts p).batch == 0 && are_queued m p reports)) (polled m p reports)
-shared m (Deliver p) = heard m p (m.fronts p).batch
-shared m (Accept p reply) = when (may_accept m.server p (m.fronts p)) (answered m p reply)
-shared m (Drop p) = guard (m.fronts p).accepted (with_front m p (record (m.fronts p) { accepted = false }))
+shared m (Deliver p) = other_heard m p (m.fronts p).batch
+shared m (Accept p reply) = when (may_take_one m.server p (m.fronts p)) (accept_answered m p reply)
+shared m (Drop p) = guard (m.fronts p).accepted (set_front m p (record (m.fronts p) { accepted = false }))
 shared m (Put i s) = option_map
     (λ (c : Taken). record m { tickets = c.rest ++ record c.ticket { hand = None } ∷ [] })
-    (first_of (suits i (Some s)) m.tickets)
+    (first_ticket (suits i (Some s)) m.tickets)
 shared m x = None
 
 -- Any step
 
 -- it is a thread, and has no program where it is
-abbrev pub rests : Many → ℕ → Bool
-rests m i = nat_lt i m.server.limits.workers && rests_at (slice_get (m.places (m.busy_at i)).threads (rank_at m (m.busy_at i) i))
+abbrev pub thread_rests : Many → ℕ → Bool
+thread_rests m i = nat_lt i m.server.limits.workers && rests_at (slice_get (m.places (m.busy_at i)).threads (rank_at m (m.busy_at i) i))
 
 -- A thread begins nothing, and as a poller does nothing, while it has a program. A poller opens and sweeps its own slots
 abbrev pub may : Many → Step → Bool
-may m (Poll p reports) = rests m p
-may m (Deliver p) = rests m p
-may m (Sweep p s) = rests m p && m.server.owner s == p
-may m (Accept p reply) = rests m p
-may m (Drop p) = rests m p
-may m (Stop p) = rests m p
-may m (Open p s) = rests m p && (m.server.owner s == p && (m.fronts p).accepted)
-may m (Begin i from most) = rests m i
+may m (Poll p reports) = thread_rests m p
+may m (Deliver p) = thread_rests m p
+may m (Sweep p s) = thread_rests m p && m.server.owner s == p
+may m (Accept p reply) = thread_rests m p
+may m (Drop p) = thread_rests m p
+may m (Stop p) = thread_rests m p
+may m (Open p s) = thread_rests m p && (m.server.owner s == p && (m.fronts p).accepted)
+may m (Begin i from most) = thread_rests m i
 may m x = true
 
 abbrev pub makes : Many → Step → Option Deed → Option Many

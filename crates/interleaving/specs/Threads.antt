@@ -35,12 +35,12 @@ abbrev pub again : List Act
 again = PutIn ∷ Post ∷ Release ∷ []
 
 -- how a turn ends if the connection is done or failed
-abbrev pub ended : List Act
-ended = Close ∷ Retire ∷ Give ∷ []
+abbrev pub end_acts : List Act
+end_acts = Close ∷ Retire ∷ Give ∷ []
 
 -- what comes next in a turn, by the pair and by the calls that are left
 abbrev pub plan : ℕ → PairState → List Act
-plan left p = if is_live (verdict p) then (if is_none (next_call p) then quiet else (if left == 0 then again else Call ∷ [])) else ended
+plan left p = if is_live (verdict p) then (if is_none (next_call p) then quiet else (if left == 0 then again else Call ∷ [])) else end_acts
 
 -- the opening of a connection
 abbrev pub open_slot : List Act
@@ -61,7 +61,7 @@ pub record ProgramsAreThese : Type 0 where
   pub gone : (other woke : Bool) → seen (gone_turn other woke) ≡ Claim ∷ TakeOut ∷ (if other then PutIn ∷ gone else gone)
   pub quiet : (woke : Bool) → seen (quiet_turn woke) ≡ turn ++ Play ∷ quiet
   pub again : (woke : Bool) → seen (again_turn woke) ≡ turn ++ Play ∷ again
-  pub ended : (given : Bool) → seen (ended_turn given) ≡ turn ++ Play ∷ (if given then ended else Close ∷ Retire ∷ [])
+  pub ended : (given : Bool) → seen (ended_turn given) ≡ turn ++ Play ∷ (if given then end_acts else Close ∷ Retire ∷ [])
   pub opening : server.open_slot ≡ open_slot
 
 -- What the threads share
@@ -96,8 +96,8 @@ pub record System : Type 0 where
   pub threads : List Thread
   pub past : List Past
 
-abbrev pub resting : Thread
-resting = record { generation = 0; out = None; left = 0; todo = [] }
+abbrev pub resting_thread : Thread
+resting_thread = record { generation = 0; out = None; left = 0; todo = [] }
 
 -- how it begins, with a thread for each worker of the limits
 abbrev pub start : Limits → System
@@ -114,7 +114,7 @@ start l = record {
   place = None;
   tickets = [];
   free = 1;
-  threads = replicate l.workers resting;
+  threads = replicate l.workers resting_thread;
   past = [];
 }
 
@@ -157,14 +157,14 @@ rests_at (Some t) = rests t
 abbrev pub poller_rests : System → Bool
 poller_rests st = rests_at (slice_get st.threads 0)
 
-abbrev pub over_kernel : System → Option KernelState → Option System
-over_kernel st k = option_map (λ (q : KernelState). record st { kernel = q }) k
+abbrev pub on_kernel : System → Option KernelState → Option System
+on_kernel st k = option_map (λ (q : KernelState). record st { kernel = q }) k
 
 -- Exchanges of the slot's word
 
 -- a note is posted; if the post answers Wake, a ticket of this generation is in hand
-abbrev pub posted : System → ℕ → System
-posted st g = record st {
+abbrev pub note_posted : System → ℕ → System
+note_posted st g = record st {
   word = word_after word.post st.word;
   tickets = if wakes st.word then st.tickets ++ g ∷ [] else st.tickets;
 }
@@ -182,21 +182,21 @@ exchanged st kind = record st { word = word_after kind st.word }
 
 -- The acts of the thread i, which is t, with this rest of its program after the act
 
-abbrev pub goes_on : Thread → List Act → Thread
-goes_on t rest = record t { todo = rest }
+abbrev pub then_acts : Thread → List Act → Thread
+then_acts t rest = record t { todo = rest }
 
 -- the thread holds the slot; or drops its ticket, if the slot is held
-abbrev pub claimed : System → ℕ → Thread → List Act → System
-claimed st i t rest =
-    if st.word.held then with_thread st i resting
-    else with_thread (exchanged st word.claim) i (goes_on t rest)
+abbrev pub slot_claimed : System → ℕ → Thread → List Act → System
+slot_claimed st i t rest =
+    if st.word.held then with_thread st i resting_thread
+    else with_thread (exchanged st word.claim) i (then_acts t rest)
 
 -- The thread has the connection out, if it is the ticket's own. Another one, which is never found, stays in its place
 abbrev pub taken_out : System → ℕ → Thread → List Act → Option Connection → System
-taken_out st i t rest None = with_thread st i (goes_on t gone)
+taken_out st i t rest None = with_thread st i (then_acts t gone)
 taken_out st i t rest (Some c) =
     if c.pair.generation == t.generation then with_thread (record st { place = None }) i (record t { out = Some c; todo = rest })
-    else with_thread st i (goes_on t gone)
+    else with_thread st i (then_acts t gone)
 
 -- a turn goes on with the connection c out and `left` calls left; c fails if the idle limit has passed
 abbrev pub planned : System → Thread → ℕ → Connection → Thread
@@ -205,19 +205,19 @@ planned st t left c =
     record t { out = Some (record c { pair = p }); left = left; todo = plan left p }
 
 -- if there were notes, every call is worth a try again
-abbrev pub heard : ℕ → Connection → Connection
-heard notes c = if some_wait notes then record c { pair = noted c.pair } else c
+abbrev pub notes_heard : ℕ → Connection → Connection
+notes_heard notes c = if some_wait notes then record c { pair = noted c.pair } else c
 
 -- all notes are taken; that no connection is out never happens
 abbrev pub taking : System → ℕ → Thread → List Act → Option Connection → System
-taking st i t rest None = with_thread (exchanged st word.take) i (goes_on t rest)
-taking st i t rest (Some c) = with_thread (exchanged st word.take) i (planned st t t.left (heard st.word.pending c))
+taking st i t rest None = with_thread (exchanged st word.take) i (then_acts t rest)
+taking st i t rest (Some c) = with_thread (exchanged st word.take) i (planned st t t.left (notes_heard st.word.pending c))
 
 abbrev pub put_in : System → ℕ → Thread → List Act → System
 put_in st i t rest = with_thread (record st { place = t.out }) i (record t { out = None; todo = rest })
 
-abbrev pub closed : System → ℕ → Thread → List Act → Connection → Option System
-closed st i t rest c = option_map
+abbrev pub system_closed : System → ℕ → Thread → List Act → Connection → Option System
+system_closed st i t rest c = option_map
     (λ (told : Told KernelState Sockets). with_thread (record st {
       kernel = told.value;
       ends = None;
@@ -226,8 +226,8 @@ closed st i t rest c = option_map
     (kernel.close_both st.kernel c.ends)
 
 -- a slot whose last generation was used is not opened again
-abbrev pub given : System → ℕ → System
-given st g = if is_worn g then st else record st { free = suc st.free }
+abbrev pub slot_given : System → ℕ → System
+slot_given st g = if is_worn g then st else record st { free = suc st.free }
 
 -- both sockets are open, and the connection is out with the thread
 abbrev pub registered : System → ℕ → Thread → List Act → ℕ → ℕ → Told KernelState Descriptors → System
@@ -251,27 +251,27 @@ registering st i t rest (suc free) = when st.accepted (option_and_then
 -- the thread holds the slot; or, which never happens, the slot was not free and is no longer used
 abbrev pub adopted : System → ℕ → Thread → List Act → System
 adopted st i t rest =
-    if st.word.free then with_thread (exchanged st word.adopt) i (goes_on t rest)
-    else with_thread st i resting
+    if st.word.free then with_thread (exchanged st word.adopt) i (then_acts t rest)
+    else with_thread st i resting_thread
 
 abbrev pub after_act : System → ℕ → Thread → Act → List Act → Option System
-after_act st i t Claim rest = Some (claimed st i t rest)
+after_act st i t Claim rest = Some (slot_claimed st i t rest)
 after_act st i t TakeOut rest = Some (taken_out st i t rest st.place)
 after_act st i t TakeNotes rest = Some (taking st i t rest t.out)
 after_act st i t Call rest = None
 after_act st i t Play rest = None
 after_act st i t PutIn rest = Some (put_in st i t rest)
-after_act st i t Post rest = Some (with_thread (posted st t.generation) i (goes_on t rest))
-after_act st i t Release rest = Some (with_thread (released st t.generation) i (goes_on t rest))
-after_act st i t Close rest = option_and_then (λ (c : Connection). closed st i t rest c) t.out
-after_act st i t Retire rest = Some (with_thread (exchanged st word.retire) i (goes_on t rest))
-after_act st i t Give rest = Some (with_thread (given st t.generation) i (goes_on t rest))
+after_act st i t Post rest = Some (with_thread (note_posted st t.generation) i (then_acts t rest))
+after_act st i t Release rest = Some (with_thread (released st t.generation) i (then_acts t rest))
+after_act st i t Close rest = option_and_then (λ (c : Connection). system_closed st i t rest c) t.out
+after_act st i t Retire rest = Some (with_thread (exchanged st word.retire) i (then_acts t rest))
+after_act st i t Give rest = Some (with_thread (slot_given st t.generation) i (then_acts t rest))
 after_act st i t Register rest = registering st i t rest st.free
 after_act st i t Adopt rest = Some (adopted st i t rest)
-after_act st i t Enter rest = Some (with_thread (record st { entry = t.generation }) i (goes_on t rest))
-after_act st i t Discard rest = Some (with_thread (exchanged st word.take) i (goes_on t rest))
-after_act st i t Settle rest = Some (with_thread st i (goes_on t rest))
-after_act st i t PutTicket rest = Some (with_thread st i (goes_on t rest))
+after_act st i t Enter rest = Some (with_thread (record st { entry = t.generation }) i (then_acts t rest))
+after_act st i t Discard rest = Some (with_thread (exchanged st word.take) i (then_acts t rest))
+after_act st i t Settle rest = Some (with_thread st i (then_acts t rest))
+after_act st i t PutTicket rest = Some (with_thread st i (then_acts t rest))
 
 -- the next call of the connection that is out gets a reply
 abbrev pub calls : System → ℕ → Thread → Reply → List Act → Option System
@@ -288,59 +288,59 @@ acts st i t [] = None
 acts st i t (act ∷ rest) = after_act st i t act rest
 
 -- a thread begins a turn with the oldest of these tickets and this many calls
-abbrev pub begun : System → ℕ → ℕ → List ℕ → Option System
-begun st i most [] = None
-begun st i most (g ∷ rest) =
+abbrev pub turn_begun : System → ℕ → ℕ → List ℕ → Option System
+turn_begun st i most [] = None
+turn_begun st i most (g ∷ rest) =
     Some (with_thread (record st { tickets = rest }) i (record { generation = g; out = None; left = most; todo = turn }))
 
 -- a turn has at most as many calls as the budget; the server gives a poller's thread at most 8
 abbrev pub begins : System → ℕ → ℕ → Thread → Option System
-begins st i most t = when (rests t && nat_le most st.limits.budget) (begun st i most st.tickets)
+begins st i most t = when (rests t && nat_le most st.limits.budget) (turn_begun st i most st.tickets)
 
 -- What the poller does between its programs
 
-abbrev pub after_accept : System → Accepting → System
-after_accept st Accepted = record st { accepted = true }
-after_accept st Blocked = record st { flag = false }
-after_accept st Again = st
-after_accept st Starved = st
+abbrev pub accept_answer : System → Accepting → System
+accept_answer st Accepted = record st { accepted = true }
+accept_answer st Blocked = record st { flag = false }
+accept_answer st Again = st
+accept_answer st Starved = st
 
 -- a report of an end is posted only where its generation is the table's
-abbrev pub delivered : System → Name → System
-delivered st name.Listener = record st { flag = true }
-delivered st name.Waker = st
-delivered st (name.End n) = if (n.slot == 0) && (st.entry == n.generation) then posted st n.generation else st
+abbrev pub report_delivered : System → Name → System
+report_delivered st name.Listener = record st { flag = true }
+report_delivered st name.Waker = st
+report_delivered st (name.End n) = if (n.slot == 0) && (st.entry == n.generation) then note_posted st n.generation else st
 
 abbrev pub delivers : System → List Name → Option System
 delivers st [] = None
-delivers st (n ∷ rest) = Some (record (delivered st n) { batch = rest })
+delivers st (n ∷ rest) = Some (record (report_delivered st n) { batch = rest })
 
 -- what a report is about, as the kernel knows it
-abbrev pub watched_of : System → Reported → Option Watched
-watched_of st reported.Listener = Some watched.Listener
-watched_of st reported.Waker = Some watched.Waker
-watched_of st (reported.End s side) = option_map (λ (ends : Descriptors). watched.End (descriptor ends side)) st.ends
+abbrev pub watched_by : System → Reported → Option Watched
+watched_by st reported.Listener = Some watched.Listener
+watched_by st reported.Waker = Some watched.Waker
+watched_by st (reported.End s side) = option_map (λ (ends : Descriptors). watched.End (descriptor ends side)) st.ends
 
-abbrev pub is_limited : System → Bool
-is_limited st = nat_lt 0 st.limits.idle
+abbrev pub limit_is_set : System → Bool
+limit_is_set st = nat_lt 0 st.limits.idle
 
 abbrev pub step : System → Step → Option System
-step st (Tick n) = guard (is_limited st && (nat_le 1 n && (nat_le n 4294967295 && nat_le (st.second + n) 18446744073709551615)))
+step st (Tick n) = guard (limit_is_set st && (nat_le 1 n && (nat_le n 4294967295 && nat_le (st.second + n) 18446744073709551615)))
     (record st { second = st.second + n })
 step st (Network side change) = option_and_then
-    (λ (ends : Descriptors). over_kernel st (change_at st.kernel (descriptor ends side) change)) st.ends
-step st Connect = over_kernel st (kernel.connect_in st.kernel)
-step st (Spurious who) = option_and_then (λ (w : Watched). over_kernel st (kernel.spurious st.kernel w)) (watched_of st who)
-step st (Vanish who) = option_and_then (λ (w : Watched). over_kernel st (kernel.vanish st.kernel w)) (watched_of st who)
+    (λ (ends : Descriptors). on_kernel st (change_at st.kernel (descriptor ends side) change)) st.ends
+step st Connect = on_kernel st (kernel.connect_in st.kernel)
+step st (Spurious who) = option_and_then (λ (w : Watched). on_kernel st (kernel.spurious st.kernel w)) (watched_by st who)
+step st (Vanish who) = option_and_then (λ (w : Watched). on_kernel st (kernel.vanish st.kernel w)) (watched_by st who)
 step st (Accept reply) = when (poller_rests st && (st.flag && (not st.accepted && nat_lt 0 st.free)))
-    (over_kernel (after_accept st reply) (kernel.accept st.kernel reply))
+    (on_kernel (accept_answer st reply) (kernel.accept st.kernel reply))
 step st Drop = guard (poller_rests st && st.accepted) (record st { accepted = false })
 step st (Poll names) = when (poller_rests st && (length st.batch == 0))
-    (over_kernel (record st { batch = names.items }) (kernel.poll st.kernel names.items))
+    (on_kernel (record st { batch = names.items }) (kernel.poll st.kernel names.items))
 step st Deliver = when (poller_rests st) (delivers st st.batch)
-step st Sweep = guard (poller_rests st && (is_limited st && nat_lt 0 st.entry)) (posted st st.entry)
+step st Sweep = guard (poller_rests st && (limit_is_set st && nat_lt 0 st.entry)) (note_posted st st.entry)
 step st Open = option_and_then
-    (λ (t : Thread). guard (rests t && st.accepted) (with_thread st 0 (goes_on t open_slot))) (slice_get st.threads 0)
+    (λ (t : Thread). guard (rests t && st.accepted) (with_thread st 0 (then_acts t open_slot))) (slice_get st.threads 0)
 step st (Begin i most) = option_and_then (λ (t : Thread). begins st i most t) (slice_get st.threads i)
 step st (Acts i) = option_and_then (λ (t : Thread). acts st i t t.todo) (slice_get st.threads i)
 step st (Calls i r) = option_and_then (λ (t : Thread). calls st i t r t.todo) (slice_get st.threads i)

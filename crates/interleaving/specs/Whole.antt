@@ -7,26 +7,26 @@ use Rattle.interleaving.specs.{Rest.{client_weight, is_settled, is_answered, pos
 use Rattle.interleaving.specs.Rest as alone
 
 -- The server's own steps, as those of one slot; and that a ticket is put into the queue
-abbrev pub is_own : Step → Bool
-is_own (Poll p reports) = nat_lt 0 (length reports)
-is_own (Deliver p) = true
-is_own (Accept p reply) = is_settled reply
-is_own (Drop p) = true
-is_own (Open p s) = true
-is_own (Begin i from most) = nat_le 4 most
-is_own (Put i s) = true
-is_own (Acts i) = true
-is_own (Calls i r) = is_answered r
-is_own x = false
+abbrev pub is_own_of_server : Step → Bool
+is_own_of_server (Poll p reports) = nat_lt 0 (length reports)
+is_own_of_server (Deliver p) = true
+is_own_of_server (Accept p reply) = is_settled reply
+is_own_of_server (Drop p) = true
+is_own_of_server (Open p s) = true
+is_own_of_server (Begin i from most) = nat_le 4 most
+is_own_of_server (Put i s) = true
+is_own_of_server (Acts i) = true
+is_own_of_server (Calls i r) = is_answered r
+is_own_of_server x = false
 
 -- the reports of the waker that a poll gives: of each may come a poll and a delivery that do nothing else
 abbrev pub is_waker : Report → ℕ
 is_waker Waker = 1
 is_waker r = 0
 
-abbrev pub wakes : Step → ℕ
-wakes (Poll p reports) = total is_waker reports
-wakes x = 0
+abbrev pub wakes_in : Step → ℕ
+wakes_in (Poll p reports) = total is_waker reports
+wakes_in x = 0
 
 -- an accepted client: its slot takes it as one that waits there, perhaps reported, and opens it
 abbrev pub accepted_weight : Limits → ℕ
@@ -54,13 +54,13 @@ shared_weight m = (1 + accepted_weight m.server.limits) * m.backlog + (total han
 abbrev pub slots_weight : Many → ℕ
 slots_weight m = total (λ s. alone.weight (slot_of m s)) (numbers_below m.server.limits.slots)
 
-abbrev pub weight : Many → ℕ
-weight m = 2 * slots_weight m + shared_weight m
+abbrev pub server_weight : Many → ℕ
+server_weight m = 2 * slots_weight m + shared_weight m
 
 -- From any state to which steps lead, no more own steps can follow, in any order and by any threads, than the server
 -- weighs, and two for each report of the waker
 abbrev pub LeftAloneServersEnd : Type 0
 LeftAloneServersEnd =
     (server : Server) (before own : List Step) (m next : Many) → ((s : ℕ) → server.owner s < server.limits.workers)
-    → run (start server) before ≡ Some m → list_all is_own own ≡ true → run m own ≡ Some next
-    → length own + weight next ≤ weight m + 2 * total wakes own
+    → run (start server) before ≡ Some m → list_all is_own_of_server own ≡ true → run m own ≡ Some next
+    → length own + server_weight next ≤ server_weight m + 2 * total wakes_in own

@@ -117,10 +117,10 @@ abbrev pub shut : KernelState → ℕ → Reply → Option KernelState
 shut k descriptor reply = called k descriptor (λ (e : EndState). after_shut e reply)
 
 -- the name of what is watched; a descriptor that is not open has none
-abbrev pub name_of : KernelState → Watched → Option Name
-name_of k watched.Listener = Some Listener
-name_of k watched.Waker = Some Waker
-name_of k (watched.End descriptor) = option_map (λ (r : Registered). End r.token) (end_at k.ends descriptor)
+abbrev pub name_watched : KernelState → Watched → Option Name
+name_watched k watched.Listener = Some Listener
+name_watched k watched.Waker = Some Waker
+name_watched k (watched.End descriptor) = option_map (λ (r : Registered). End r.token) (end_at k.ends descriptor)
 
 abbrev pub is_quiet_end : Option Registered → Bool
 is_quiet_end None = true
@@ -134,13 +134,13 @@ is_quiet k (watched.End descriptor) = is_quiet_end (end_at k.ends descriptor)
 
 -- a report comes without cause
 abbrev pub spurious : KernelState → Watched → Option KernelState
-spurious k who = option_map (λ (name : Name). record k { queue = with_name name k.queue }) (name_of k who)
+spurious k who = option_map (λ (name : Name). record k { queue = with_name name k.queue }) (name_watched k who)
 
 -- a report is withdrawn, which happens only while no call could do anything there
 abbrev pub vanish : KernelState → Watched → Option KernelState
 vanish k who = option_and_then
     (λ (name : Name). guard (has name k.queue && is_quiet k who) (record k { queue = without_name name k.queue }))
-    (name_of k who)
+    (name_watched k who)
 
 -- a poll hands over some of the queued names, in any order, 256 at most (epoll_wait(2))
 abbrev pub poll : KernelState → List Name → Option KernelState

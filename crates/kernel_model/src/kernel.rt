@@ -1,6 +1,6 @@
 // The kernel of one process. The calls on single ends are in `sockets.rt`.
 ghost use Rattle.std.specs.{Prelude.{◌≡◌, ◌<◌, Some, IsSome, IsErrOf, IsTrue, ◌↔◌, position}, Option.{option_copied, is_none}};
-ghost use Rattle.kernel_model.specs.{Outcome.{Meets, MeetsAlways, Tells, TellsAlways}, Names.has, Kernel.{Registered, queues_more, idle, end_at, lowest_free, open_end, close, name_of, is_quiet, spurious, vanish, poll, connect_in, accept}};
+ghost use Rattle.kernel_model.specs.{Outcome.{Meets, MeetsAlways, Tells, TellsAlways}, Names.has, Kernel.{Registered, queues_more, idle, end_at, lowest_free, open_end, close, name_watched, is_quiet, spurious, vanish, poll, connect_in, accept}};
 
 use crate::accepting::Accepting;
 use crate::connecting::place;
@@ -199,7 +199,7 @@ impl Kernel {
     }
 
     fn name_of(&self, who: Watched) -> Option<Name>
-        ensures { result ≡ name_of self.now who }
+        ensures { result ≡ name_watched self.now who }
     {
         match who {
             Watched::Listener => Some(Name::Listener),

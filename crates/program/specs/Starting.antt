@@ -8,9 +8,9 @@ use Rattle.program.specs.declared.{extras.NumberOption.{NumberOption, TheVariant
 abbrev pub needed : ℕ → ℕ → ℕ
 needed slots workers = 2 * slots + 2 * pollers_for slots workers
 
--- a process that may have `most` descriptors open, and has `used`, can open those that this many slots need
+-- a process that may have `most_of_option` descriptors open, and has `used`, can open those that this many slots need
 abbrev pub HasFor : ℕ → ℕ → ℕ → ℕ → Type 0
-HasFor most used slots workers = used + needed slots workers ≤ most
+HasFor most_of_option used slots workers = used + needed slots workers ≤ most_of_option
 
 -- the address that means every address of the machine; a connection to it goes to `loopback`
 abbrev pub every : List ℕ
@@ -22,8 +22,8 @@ loopback = 127 ∷ 0 ∷ 0 ∷ 1 ∷ []
 -- The relay is its own target. The ports are equal, and one of these holds: the addresses are equal; the relay listens
 -- on every address, and the target's is in 127.0.0.0/8 or, as the system says, of this machine; it listens on
 -- loopback, and the target is every address
-abbrev pub Meets : SocketAddress → SocketAddress → Bool → Type 0
-Meets listen target here =
+abbrev pub MeetsItself : SocketAddress → SocketAddress → Bool → Type 0
+MeetsItself listen target here =
     (listen.1 ≡ target.1)
     × ((listen.0 ≡ target.0)
     ⊎ (((listen.0 ≡ every) × ((slice_index target.0 0 ≡ 127) ⊎ (here ≡ true)))
@@ -42,11 +42,11 @@ abbrev pub least : NumberOption → ℕ
 least RecordSize = 65536
 least _ = 1
 
-abbrev pub most : NumberOption → ℕ
-most Stats = 86400
-most ConnectTimeout = 3600
-most Keepalive = 32767
-most RecordSize = 4294967295
+abbrev pub most_of_option : NumberOption → ℕ
+most_of_option Stats = 86400
+most_of_option ConnectTimeout = 3600
+most_of_option Keepalive = 32767
+most_of_option RecordSize = 4294967295
 
 -- the most bytes of each file that is recorded into: half of what all may have, or the greatest number of 64 bits
 abbrev pub most_of_part : Option ℕ → ℕ

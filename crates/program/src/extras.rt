@@ -1,6 +1,6 @@
 //! The options of a relay that are no settings.
 ghost use Rattle.std.specs.Prelude.{◌≡◌, ◌⊎◌, ◌≤◌, IfOk, IfErr, IfSome};
-ghost use Rattle.program.specs.{Starting.{least, most, most_of_part}, Faults.status_of};
+ghost use Rattle.program.specs.{Starting.{least, most_of_option, most_of_part}, Faults.status_of};
 
 use crate::faults::ProgramFault;
 use crate::streams::log_error;
@@ -65,7 +65,7 @@ impl NumberOption {
     }
 
     fn most(self) -> u32
-        ensures { result ≡ most self }
+        ensures { result ≡ most_of_option self }
     {
         match self {
             Self::Stats => 86_400,
@@ -114,7 +114,7 @@ fn number_of(
     option: NumberOption,
     typed: Option<&str>,
 ) -> Result<Option<u32>, ProgramFault>
-    ensures range { IfOk result (λ number. IfSome number (λ n. (least option ≤ n) × (n ≤ most option))) }
+    ensures range { IfOk result (λ number. IfSome number (λ n. (least option ≤ n) × (n ≤ most_of_option option))) }
     ensures refused { IfErr result (λ fault. (fault ≡ ProgramFault.Number option) ⊎ (fault ≡ ProgramFault.NoNumber option)) }
 {
     let Some(text) = typed else {

@@ -1,6 +1,6 @@
 //! Checks before a relay serves whether it can work as it is set, and warns if not; and says where it listens.
 ghost use Rattle.std.specs.Prelude.{◌≡◌, ◌≤◌, ◌↔◌, IsTrue, IsOk, IsSome, IfOk, IfErr, ◌<◌, ◌+◌};
-ghost use Rattle.program.specs.{Faults.status_of, Starting.{Meets, IsOfMany, HasFor, needed}};
+ghost use Rattle.program.specs.{Faults.status_of, Starting.{MeetsItself, IsOfMany, HasFor, needed}};
 
 use crate::extras::Extras;
 use crate::faults::ProgramFault;
@@ -230,7 +230,7 @@ impl fmt::Display for Counted {
 
 /// Whether connections to the target reach the relay itself. `is_here`: the target's address is of this machine.
 fn meets(listen: Address, target: Address, is_here: bool) -> bool
-    ensures { IsTrue result ↔ Meets listen target is_here }
+    ensures { IsTrue result ↔ MeetsItself listen target is_here }
 {
     listen.1 == target.1
         && (listen.0 == target.0

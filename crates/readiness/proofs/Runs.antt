@@ -1,7 +1,7 @@
 -- What every step keeps of a wire, its socket and its reports, and so what holds after any list of steps.
 use Rattle.std.{proofs.{Common.{◌≡◌, ◌⊎◌, Bool, true, false, ◌||◌, List, [], ◌∷◌, ◌++◌, ℕ, None, Option, Some, refl, ◌∙◌, inl, inr, not, ◌&&◌, zero, suc, length, Contains, option_map, sym, length-append, lt-ltb, ltb-true, arith}, lemmas.{Bool.{or_left, not-true, or_parts, or_right}, List.Elements.Contains-push, Option.option_and_then_some}}, specs.Cmp.{first_so, second_so}}
 use Rattle.kernel_model.specs.{Ends.{EndState, is_readable, is_nonempty, is_writable, new_room}, Outcome.{Told, guard}, declared.reply.Reply.Reply}
-use Rattle.readiness.specs.Machine.{Bytes, Call, Calls, Change, Comes, Error, Fin, HasRoom, IsCovered, Join, Looks, MissesNothing, Old, Polled, Read, Shut, Spurious, Step, Tells, Unasked, Vanished, Way, WillBeTold, WiresMissNothing, Write, after_call, change_of, is_quiet, may_call, opening, reads_after, run, step, tells}
+use Rattle.readiness.specs.Machine.{Bytes, Call, Calls, Change, Comes, Error, Fin, HasRoom, IsCovered, Join, Looks, MissesNothing, Old, Polled, Read, Shut, Spurious, Step, Tells, Unasked, Vanished, Way, WillBeTold, WiresMissNothing, Write, after_call, end_changed, end_is_quiet, may_call, new_way, reads_then, run, step, tells}
 use Rattle.token.specs.declared.{kind.Kind.Kind}
 use Rattle.kernel_model.specs.declared.reply.Reply.TheVariants as reply
 
@@ -32,14 +32,14 @@ nonempty_more xs ys h =
     let all = length-append xs ys in
     lt-ltb 0 (length (xs ++ ys)) (omega arith)
 
-pub heard : (c : Change) (e : EndState) (t : Told EndState Bool) → change_of e c ≡ Some t → Heard e t
+pub heard : (c : Change) (e : EndState) (t : Told EndState Bool) → end_changed e c ≡ Some t → Heard e t
 heard (Bytes bytes) e t h =
     let g = guarded _ _ t h in
     rw g.1 (record { readable = or_left _ (e.fin || e.err) (nonempty_more e.unread bytes (first_so (is_nonempty bytes) _ g.0)); told = λ armed. armed })
 heard Fin e t h = rw (guarded _ _ t h).1 (record { readable = or_right (is_nonempty e.unread) true refl; told = λ armed. armed })
 heard Error e t h = rw (guarded _ _ t h).1 (record { readable = or_right (is_nonempty e.unread) _ (or_right e.fin true refl); told = or_left e.read_armed e.write_armed })
 
-pub failed_reads : (reads : Bool) (call : Call) (kind : Kind) → reads_after reads call (reply.Failed kind) ≡ true
+pub failed_reads : (reads : Bool) (call : Call) (kind : Kind) → reads_then reads call (reply.Failed kind) ≡ true
 failed_reads reads (Read most) kind = refl
 failed_reads reads _ kind = refl
 
@@ -79,7 +79,7 @@ beside Shut reply.Interrupted e f other is = rw (some_is is) (record { readable 
 beside Shut (reply.Failed kind) e f other is = rw (guarded _ _ f is).1 (record { readable = refl; armed = refl })
 beside call r e f other is = cc
 
-reads_before : (reads : Bool) (call : Call) (r : Reply) → may_call false call ≡ true → reads_after reads call r ≡ false → reads ≡ false
+reads_before : (reads : Bool) (call : Call) (r : Reply) → may_call false call ≡ true → reads_then reads call r ≡ false → reads ≡ false
 reads_before reads (Read most) r other none = cc
 reads_before reads call (reply.Failed kind) other none = let never = failed_reads reads call kind in cc
 reads_before reads (Write offer) r other none = none
@@ -98,7 +98,7 @@ module _ {w : Way} (held : MissesNothing w) where
         coming = λ some. (let readable = sym same.readable ∙ some in on readable (it.coming readable));
       }
 
-  changes : (c : Change) (t : Told EndState Bool) → change_of w.socket c ≡ Some t → MissesNothing (record w { socket = t.value; queued = w.queued || t.told })
+  changes : (c : Change) (t : Told EndState Bool) → end_changed w.socket c ≡ Some t → MissesNothing (record w { socket = t.value; queued = w.queued || t.told })
   changes c t is reads told =
       let h = heard c w.socket t is in
       let it = held reads told in
@@ -109,7 +109,7 @@ module _ {w : Way} (held : MissesNothing w) where
       by h it false none = inl (or_right w.queued t.told (h.told (it.armed none)))
 
   -- the wire reads no more after a read that would block
-  reads : (most : ℕ) (r : Reply) (f : EndState) → w.reads ≡ true → after_call w.socket (Read most) r ≡ Some f → MissesNothing (record w { socket = f; reads = reads_after w.reads (Read most) r })
+  reads : (most : ℕ) (r : Reply) (f : EndState) → w.reads ≡ true → after_call w.socket (Read most) r ≡ Some f → MissesNothing (record w { socket = f; reads = reads_then w.reads (Read most) r })
   reads most reply.Blocked f may is none told =
       let g = guarded (not (is_readable w.socket)) _ f is in
       let empty = not-true (is_readable w.socket) g.0 in
@@ -117,10 +117,10 @@ module _ {w : Way} (held : MissesNothing w) where
   reads most (reply.Failed kind) f may is none told = cc
   reads most r f may is none told = cc
 
-  others : (call : Call) (r : Reply) (f : EndState) → may_call false call ≡ true → after_call w.socket call r ≡ Some f → MissesNothing (record w { socket = f; reads = reads_after w.reads call r })
+  others : (call : Call) (r : Reply) (f : EndState) → may_call false call ≡ true → after_call w.socket call r ≡ Some f → MissesNothing (record w { socket = f; reads = reads_then w.reads call r })
   others call r f other is = stays _ (λ none told. (reads_before w.reads call r other none, told)) (beside call r w.socket f other is) (λ some will. will)
 
-  calls : (call : Call) (r : Reply) (f : EndState) → may_call w.reads call ≡ true → after_call w.socket call r ≡ Some f → MissesNothing (record w { socket = f; reads = reads_after w.reads call r })
+  calls : (call : Call) (r : Reply) (f : EndState) → may_call w.reads call ≡ true → after_call w.socket call r ≡ Some f → MissesNothing (record w { socket = f; reads = reads_then w.reads call r })
   calls (Read most) r f may is = reads most r f may is
   calls (Write offer) r f may is = others (Write offer) r f refl is
   calls Join r f may is = others Join r f refl is
@@ -141,7 +141,7 @@ module _ {w : Way} (held : MissesNothing w) where
   keeps v Spurious h = rw (some_is h) (stays _ (λ none told. (none, told)) (record { readable = refl; armed = refl }) (λ some will. inl refl))
   -- none is withdrawn while there is something to read
   keeps v Vanished h =
-      let g = guarded (w.queued && is_quiet w.socket) _ v h in
+      let g = guarded (w.queued && end_is_quiet w.socket) _ v h in
       let empty = (both_down (is_readable w.socket) (is_writable w.socket) (second_so w.queued _ g.0)).0 in
       rw g.1 (stays _ (λ none told. (none, told)) (record { readable = refl; armed = refl }) (λ some. (let never = empty in cc)))
   keeps v (Polled names) h =
@@ -160,4 +160,4 @@ ran (s ∷ steps) w to held h = option_and_then_some (λ v. run v steps) (step w
 
 -- a connection opens with a wire that reads
 pub wires_miss_nothing : WiresMissNothing
-wires_miss_nothing side told steps w h = ran steps (opening side told) w (λ none heard. cc) h
+wires_miss_nothing side told steps w h = ran steps (new_way side told) w (λ none heard. cc) h

@@ -12,10 +12,10 @@ pub data Change : Type 0 where
   Fin : Change
   Error : Change
 
-abbrev pub change_of : EndState → Change → Option (Told EndState Bool)
-change_of e (Bytes bytes) = arrival e bytes
-change_of e Fin = finish e
-change_of e Error = failure e
+abbrev pub end_changed : EndState → Change → Option (Told EndState Bool)
+end_changed e (Bytes bytes) = arrival e bytes
+end_changed e Fin = finish e
+end_changed e Error = failure e
 
 -- a call on a wire
 pub data Call : Type 0 where
@@ -57,16 +57,16 @@ pub data Step : Type 0 where
   Unasked : ℕ → Step
 
 -- A new connection: its wire reads. What was reported of an earlier one may still stand
-abbrev pub opening : Side → Bool → Way
-opening side told = record { socket = opened side; queued = false; taken = []; told = told; reads = true }
+abbrev pub new_way : Side → Bool → Way
+new_way side told = record { socket = opened side; queued = false; taken = []; told = told; reads = true }
 
 -- a change of the network, and its report
-abbrev pub changed : Way → Option (Told EndState Bool) → Option Way
-changed w change = option_map (λ (t : Told EndState Bool). record w { socket = t.value; queued = w.queued || t.told }) change
+abbrev pub way_changed : Way → Option (Told EndState Bool) → Option Way
+way_changed w change = option_map (λ (t : Told EndState Bool). record w { socket = t.value; queued = w.queued || t.told }) change
 
 -- a read would block, and so would a write; a report can vanish only then
-abbrev pub is_quiet : EndState → Bool
-is_quiet e = not (is_readable e) && not (is_writable e)
+abbrev pub end_is_quiet : EndState → Bool
+end_is_quiet e = not (is_readable e) && not (is_writable e)
 
 -- A poll takes the report out of the queue. It names reading if there is something to read by then, and may do so
 -- without (epoll_wait(2))
@@ -84,26 +84,26 @@ may_call reads (Read most) = reads
 may_call reads call = true
 
 -- whether the wire reads after a call: no more after a read that would block, again after any error
-abbrev pub reads_after : Bool → Call → Reply → Bool
-reads_after reads (Read most) reply.Blocked = false
-reads_after reads call (reply.Failed kind) = true
-reads_after reads call r = reads
+abbrev pub reads_then : Bool → Call → Reply → Bool
+reads_then reads (Read most) reply.Blocked = false
+reads_then reads call (reply.Failed kind) = true
+reads_then reads call r = reads
 
-abbrev pub called : Way → Call → Reply → Option Way
-called w call r = option_and_then
-    (λ (e : EndState). guard (may_call w.reads call) (record w { socket = e; reads = reads_after w.reads call r }))
+abbrev pub way_called : Way → Call → Reply → Option Way
+way_called w call r = option_and_then
+    (λ (e : EndState). guard (may_call w.reads call) (record w { socket = e; reads = reads_then w.reads call r }))
     (after_call w.socket call r)
 
 abbrev pub step : Way → Step → Option Way
-step w (Comes change) = changed w (change_of w.socket change)
-step w HasRoom = changed w (new_room w.socket)
+step w (Comes change) = way_changed w (end_changed w.socket change)
+step w HasRoom = way_changed w (new_room w.socket)
 step w Spurious = Some (record w { queued = true })
-step w Vanished = guard (w.queued && is_quiet w.socket) (record w { queued = false })
+step w Vanished = guard (w.queued && end_is_quiet w.socket) (record w { queued = false })
 step w (Polled names) = polled w names
 step w Tells = tells w w.taken
 step w Old = Some (record w { told = true })
 step w Looks = Some (record w { reads = w.reads || w.told; told = false })
-step w (Calls call r) = called w call r
+step w (Calls call r) = way_called w call r
 step w (Unasked most) = guard (not w.reads && not w.told) w
 
 -- a list of steps, each of which can be made
@@ -127,4 +127,4 @@ MissesNothing w = w.reads ≡ false → w.told ≡ false → IsCovered w
 
 -- so it is after every run from the opening of a connection, whatever was passed on before
 abbrev pub WiresMissNothing : Type 0
-WiresMissNothing = (side : Side) (told : Bool) (steps : List Step) (w : Way) → run (opening side told) steps ≡ Some w → MissesNothing w
+WiresMissNothing = (side : Side) (told : Bool) (steps : List Step) (w : Way) → run (new_way side told) steps ≡ Some w → MissesNothing w

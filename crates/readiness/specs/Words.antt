@@ -8,8 +8,8 @@ pub record WordName : Type 0 where
   pub side : Side
 
 -- the word of an end, if its slot is one of this many
-abbrev pub word_of : ℕ → ℕ → Side → Option WordName
-word_of slots slot side = if nat_lt slot slots then Some (record { slot = slot; side = side }) else None
+abbrev pub end_word : ℕ → ℕ → Side → Option WordName
+end_word slots slot side = if nat_lt slot slots then Some (record { slot = slot; side = side }) else None
 
 -- the words of a slot's two ends
 abbrev pub both_of : ℕ → WordName × WordName

@@ -1,6 +1,6 @@
 //! Where a poller leaves for a wire that a report named reading.
 ghost use Rattle.std.specs.{Prelude.{◌≡◌, Some, None, IfOk, IfSome, IfNone, OnSome, Bool, true, vec_len}, Arc.arc_value};
-ghost use Rattle.readiness.specs.Words.{word_of, words_of, IsTaken, Swapped};
+ghost use Rattle.readiness.specs.Words.{end_word, words_of, IsTaken, Swapped};
 
 use crate::word::{Flag, Heard, Word};
 use std::alloc::{AllocError, Global};
@@ -78,7 +78,7 @@ impl<F: Flag> Reports<F> {
     /// Passes on a report that names reading, at the word of that end alone, by one step. None if there is no such
     /// slot, and no step is made: the wires of such a slot always read.
     pub fn tell(&self, acts: &mut F::Acts, slot: usize, side: Side) -> Option<Heard>
-        ensures heard { result ≡ word_of self.now slot side }
+        ensures heard { result ≡ end_word self.now slot side }
         ensures set { OnSome result ((flag : F) × (was : Bool) × F.did (Swapped true was) flag acts.old acts.new) }
         ensures none { IfNone result (acts.new ≡ acts.old) }
     {
@@ -90,8 +90,8 @@ impl<F: Flag> Reports<F> {
 
     /// The word of an end, if there is such a slot.
     fn word(&self, slot: usize, side: Side) -> Option<&Arc<Word<F>>>
-        ensures some { IfSome result (λ word. Some (arc_value word.now).0 ≡ word_of self.now slot side) }
-        ensures none { IfNone result (word_of self.now slot side ≡ None) }
+        ensures some { IfSome result (λ word. Some (arc_value word.now).0 ≡ end_word self.now slot side) }
+        ensures none { IfNone result (end_word self.now slot side ≡ None) }
     {
         let ends = self.ends.get(slot)?;
         match side {
@@ -115,7 +115,7 @@ impl Ends {
 impl<F: Flag> Told<F> {
     /// The handle for the end on a side of a slot's connection. None if there is no such slot.
     pub fn new(reports: &Reports<F>, slot: usize, side: Side) -> Result<Option<Told<F>>, AllocError>
-        ensures { IfOk result (λ told. told ≡ word_of reports.now slot side) }
+        ensures { IfOk result (λ told. told ≡ end_word reports.now slot side) }
     {
         match reports.word(slot, side) {
             Some(word) => Ok(Some(Told {

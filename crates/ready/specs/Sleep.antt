@@ -45,20 +45,20 @@ resting = record { next = Rest; standing = Plain; bit = false; permit = false }
 abbrev pub start : ℕ → Queue
 start ends = record { items = 0; closed = false; ends = replicate ends resting }
 
-abbrev pub end_at : Queue → ℕ → End
-end_at q i = get_or q.ends i resting
+abbrev pub queue_end : Queue → ℕ → End
+queue_end q i = get_or q.ends i resting
 
-abbrev pub with_end : Queue → ℕ → End → Queue
-with_end q i e = record q { ends = slice_set q.ends i e }
+abbrev pub with_queue_end : Queue → ℕ → End → Queue
+with_queue_end q i e = record q { ends = slice_set q.ends i e }
 
 abbrev pub goes_on : Queue → ℕ → Act → Queue
-goes_on q i act = with_end q i (record (end_at q i) { next = act })
+goes_on q i act = with_queue_end q i (record (queue_end q i) { next = act })
 
 abbrev pub risen : Queue → ℕ → Bool → Queue
-risen q i permit = with_end q i (record (end_at q i) { next = Withdraw false; permit = permit })
+risen q i permit = with_queue_end q i (record (queue_end q i) { next = Withdraw false; permit = permit })
 
-abbrev pub IsAt : Queue → ℕ → Act → Type 0
-IsAt q i act = (end_at q i).next ≡ act
+abbrev pub EndIsAt : Queue → ℕ → Act → Type 0
+EndIsAt q i act = (queue_end q i).next ≡ act
 
 -- its bit was set, and it has not looked or slept since
 abbrev pub is_drowsy : Act → Bool
@@ -97,43 +97,46 @@ after_look false = SetBit
 
 -- a look takes an item and goes on with `found`, or finds none and goes on with `vain`
 abbrev pub looked : Queue → ℕ → Act → Act → ℕ → Queue
-looked q i found vain zero = with_end q i (record (end_at q i) { next = vain; standing = Plain })
-looked q i found vain (suc items) = with_end (record q { items = items }) i (record (end_at q i) { next = found; standing = ComesBack })
+looked q i found vain zero = with_queue_end q i (record (queue_end q i) { next = vain; standing = Plain })
+looked q i found vain (suc items) =
+    with_queue_end (record q { items = items }) i (record (queue_end q i) { next = found; standing = ComesBack })
 
 abbrev pub with_permit : Queue → ℕ → Queue
-with_permit q k = with_end q k (record (end_at q k) { permit = true })
+with_permit q k = with_queue_end q k (record (queue_end q k) { permit = true })
 
 -- the end i gives the end k a permit, and goes on with the next one
 abbrev pub unparked : Queue → ℕ → ℕ → ℕ → Queue
 unparked q i k below = goes_on (with_permit q k) i (Unpark (suc k) below)
 
 abbrev pub without_bit : Queue → ℕ → Queue
-without_bit q k = with_end q k (record (end_at q k) { bit = false })
+without_bit q k = with_queue_end q k (record (queue_end q k) { bit = false })
 
 -- An act of the end i makes r of q. It may rise without a look or a permit (`Rises`). In no call, a park with a time limit takes
 -- the permit (`Rests`). Somebody takes an item by a look of no program (`Takes`). What finds that it is too late to clear a bit
 -- changes nothing, and is no step
 pub data Step (q : Queue) (i : ℕ) (r : Queue) : Type 0 where
-  Begins : (first : Act) → is_first first ≡ true → IsAt q i Rest → r ≡ goes_on q i first → Step q i r
-  Pushes : IsAt q i Push → r ≡ with_end (record q { items = suc q.items }) i (pushed (end_at q i) (end_at q i).standing) → Step q i r
-  FindsNone : IsAt q i Wake → ((k : ℕ) → (end_at q k).bit ≡ false) → r ≡ goes_on q i Rest → Step q i r
-  Clears : (k : ℕ) → IsAt q i Wake → (end_at q k).bit ≡ true → r ≡ without_bit (goes_on q i (Unpark k (suc k))) k → Step q i r
-  Unparks : (k below : ℕ) → (k < below) × (k < length q.ends) → IsAt q i (Unpark k below) → r ≡ unparked q i k below → Step q i r
-  Ends : (k : ℕ) → IsAt q i (Unpark k k) → r ≡ goes_on q i Rest → Step q i r
-  ReadsMark : IsAt q i ReadMark → r ≡ goes_on q i (Look q.closed) → Step q i r
-  Looks : (closed : Bool) → IsAt q i (Look closed) → r ≡ looked q i Rest (after_look closed) q.items → Step q i r
-  SetsBit : IsAt q i SetBit → r ≡ with_end q i (record (end_at q i) { next = LookAgain; bit = true }) → Step q i r
-  LooksAgain : IsAt q i LookAgain → r ≡ looked q i (Withdraw true) Park q.items → Step q i r
-  Rises : (act : Act) (permit : Bool) → is_drowsy act ≡ true → IsAt q i act → r ≡ risen q i permit → Step q i r
-  Withdraws : (found : Bool) → IsAt q i (Withdraw found) → r ≡ with_end q i (withdrawn (end_at q i) found (end_at q i).bit) → Step q i r
-  SetsMark : IsAt q i SetMark → r ≡ goes_on (record q { closed = true }) i (Unpark 0 (length q.ends)) → Step q i r
-  Rests : IsAt q i Rest → r ≡ with_end q i (record (end_at q i) { permit = false }) → Step q i r
+  Begins : (first : Act) → is_first first ≡ true → EndIsAt q i Rest → r ≡ goes_on q i first → Step q i r
+  Pushes : EndIsAt q i Push
+      → r ≡ with_queue_end (record q { items = suc q.items }) i (pushed (queue_end q i) (queue_end q i).standing) → Step q i r
+  FindsNone : EndIsAt q i Wake → ((k : ℕ) → (queue_end q k).bit ≡ false) → r ≡ goes_on q i Rest → Step q i r
+  Clears : (k : ℕ) → EndIsAt q i Wake → (queue_end q k).bit ≡ true → r ≡ without_bit (goes_on q i (Unpark k (suc k))) k → Step q i r
+  Unparks : (k below : ℕ) → (k < below) × (k < length q.ends) → EndIsAt q i (Unpark k below) → r ≡ unparked q i k below → Step q i r
+  Ends : (k : ℕ) → EndIsAt q i (Unpark k k) → r ≡ goes_on q i Rest → Step q i r
+  ReadsMark : EndIsAt q i ReadMark → r ≡ goes_on q i (Look q.closed) → Step q i r
+  Looks : (closed : Bool) → EndIsAt q i (Look closed) → r ≡ looked q i Rest (after_look closed) q.items → Step q i r
+  SetsBit : EndIsAt q i SetBit → r ≡ with_queue_end q i (record (queue_end q i) { next = LookAgain; bit = true }) → Step q i r
+  LooksAgain : EndIsAt q i LookAgain → r ≡ looked q i (Withdraw true) Park q.items → Step q i r
+  Rises : (act : Act) (permit : Bool) → is_drowsy act ≡ true → EndIsAt q i act → r ≡ risen q i permit → Step q i r
+  Withdraws : (found : Bool) → EndIsAt q i (Withdraw found)
+      → r ≡ with_queue_end q i (withdrawn (queue_end q i) found (queue_end q i).bit) → Step q i r
+  SetsMark : EndIsAt q i SetMark → r ≡ goes_on (record q { closed = true }) i (Unpark 0 (length q.ends)) → Step q i r
+  Rests : EndIsAt q i Rest → r ≡ with_queue_end q i (record (queue_end q i) { permit = false }) → Step q i r
   Takes : (items : ℕ) → q.items ≡ suc items → r ≡ record q { items = items } → Step q i r
 
 -- these steps, each of one of the ends, lead from q to r
-abbrev pub Run : Queue → List (ℕ × Queue) → Queue → Type 0
-Run q [] r = r ≡ q
-Run q ((i, p) ∷ steps) r = (i < length q.ends) × Step q i p × Run p steps r
+abbrev pub StepsLead : Queue → List (ℕ × Queue) → Queue → Type 0
+StepsLead q [] r = r ≡ q
+StepsLead q ((i, p) ∷ steps) r = (i < length q.ends) × Step q i p × StepsLead p steps r
 
 -- What holds
 
@@ -147,7 +150,7 @@ unparks k act = false
 
 -- some thread is about to unpark this end
 abbrev pub WillBeUnparked : Queue → ℕ → Type 0
-WillBeUnparked q k = (i : ℕ) × (unparks k (end_at q i).next ≡ true)
+WillBeUnparked q k = (i : ℕ) × (unparks k (queue_end q i).next ≡ true)
 
 abbrev pub owes : Standing → Bool
 owes Owes = true
@@ -179,11 +182,11 @@ pub data IsOnItsWay (e : End) : Type 0 where
 -- although its bit was cleared, or the queue closed, is about to be unparked. So if an end sleeps and an item waits,
 -- somebody is awake, and on the way to take one or to wake an end
 pub record NobodySleepsBesideWork (q : Queue) : Type 0 where
-  pub free : (k : ℕ) → IsAsleep (end_at q k) → (end_at q k).bit ≡ true → duties (end_at q k) ≡ 0
-  pub each : (k : ℕ) → IsAsleep (end_at q k) → (end_at q k).bit ≡ true → q.items ≤ sum_by duties q.ends
-  pub woken : (k : ℕ) → IsAsleep (end_at q k) → ((end_at q k).bit ≡ false) ⊎ (q.closed ≡ true) → WillBeUnparked q k
-  pub some : (k : ℕ) → IsAsleep (end_at q k) → 0 < q.items → (i : ℕ) × (¬ (IsAsleep (end_at q i))) × IsOnItsWay (end_at q i)
+  pub free : (k : ℕ) → IsAsleep (queue_end q k) → (queue_end q k).bit ≡ true → duties (queue_end q k) ≡ 0
+  pub each : (k : ℕ) → IsAsleep (queue_end q k) → (queue_end q k).bit ≡ true → q.items ≤ sum_by duties q.ends
+  pub woken : (k : ℕ) → IsAsleep (queue_end q k) → ((queue_end q k).bit ≡ false) ⊎ (q.closed ≡ true) → WillBeUnparked q k
+  pub some : (k : ℕ) → IsAsleep (queue_end q k) → 0 < q.items → (i : ℕ) × (¬ (IsAsleep (queue_end q i))) × IsOnItsWay (queue_end q i)
 
 -- for any number of ends, and any list of their steps
 abbrev pub NobodySleeps : Type 0
-NobodySleeps = (ends : ℕ) (steps : List (ℕ × Queue)) (q : Queue) → Run (start ends) steps q → NobodySleepsBesideWork q
+NobodySleeps = (ends : ℕ) (steps : List (ℕ × Queue)) (q : Queue) → StepsLead (start ends) steps q → NobodySleepsBesideWork q

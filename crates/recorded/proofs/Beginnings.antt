@@ -2,10 +2,10 @@
 use Rattle.std.proofs.Common.{◌≡◌, ◌∙◌, ℕ, Bool, true, List, nat_lt, rules}
 use Rattle.records.specs.declared.act.{Record.Record, Act.{Act, TheVariants.{Poller, Second, Begin, End, Wire, Ended, Full}}, Polling.TheVariants.{Gave, Interrupted, Failed, Time, Reported, Accept, Open}}
 use Rattle.recorded.specs.declared.beginning.Beginning.{Beginning}
-use Rattle.recorded.specs.Beginnings.{Knows, IsInside, flag_at, follows, has, opens, stays, waits}
+use Rattle.recorded.specs.Beginnings.{KnowsOf, IsInside, flag_at, stays_from, has_act, opens, stays, waits_poller}
 
-follows_same : (b : Beginning) (kept : List Record) (act : Act) → Knows kept b → IsInside b act
-    → follows (flag_at b.waited.items) (flag_at b.opened.items) act ≡ follows (λ poller. has (waits poller) kept) (λ slot. has (opens slot) kept) act
+follows_same : (b : Beginning) (kept : List Record) (act : Act) → KnowsOf kept b → IsInside b act
+    → stays_from (flag_at b.waited.items) (flag_at b.opened.items) act ≡ stays_from (λ poller. has_act (waits_poller poller) kept) (λ slot. has_act (opens slot) kept) act
 follows_same b kept (Poller number (Open at generation opening)) knows inside = knows.0 number inside.0
 follows_same b kept (Poller number (Gave n)) knows inside = search rules
 follows_same b kept (Poller number Interrupted) knows inside = search rules
@@ -20,7 +20,7 @@ follows_same b kept (Second n) knows inside = search rules
 follows_same b kept Ended knows inside = search rules
 follows_same b kept Full knows inside = search rules
 
-pub stays_same : (b : Beginning) (kept : List Record) (r : Record) (result told : Bool) → Knows kept b → IsInside b r.act
-    → nat_lt b.from r.before ≡ true → told ≡ follows (flag_at b.waited.items) (flag_at b.opened.items) r.act → result ≡ told
+pub stays_same : (b : Beginning) (kept : List Record) (r : Record) (result told : Bool) → KnowsOf kept b → IsInside b r.act
+    → nat_lt b.from r.before ≡ true → told ≡ stays_from (flag_at b.waited.items) (flag_at b.opened.items) r.act → result ≡ told
     → result ≡ stays b.from kept r
 stays_same b kept r result told knows inside late is same = rw late (same ∙ is ∙ follows_same b kept r.act knows inside)

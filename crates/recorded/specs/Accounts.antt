@@ -11,65 +11,65 @@ use Rattle.records.specs.declared.act.Answer.TheVariants as answer
 
 -- One act
 
-abbrev pub same : Side → Side → Bool
-same Client Client = true
-same Target Target = true
-same a b = false
+abbrev pub is_same_side : Side → Side → Bool
+is_same_side Client Client = true
+is_same_side Target Target = true
+is_same_side a b = false
 
-abbrev pub moved : Answer → ℕ
-moved (answer.Moved n) = n
-moved a = 0
+abbrev pub moved_bytes : Answer → ℕ
+moved_bytes (answer.Moved n) = n
+moved_bytes a = 0
 
 -- how many bytes an act read at a side, and how many it wrote there
 abbrev pub read_at : Side → Act → ℕ
-read_at side (act.Wire n (made.Read most a)) = if same side n.side then moved a else 0
+read_at side (act.Wire n (made.Read most a)) = if is_same_side side n.side then moved_bytes a else 0
 read_at side a = 0
 
 abbrev pub written_at : Side → Act → ℕ
-written_at side (act.Wire n (made.Write length a)) = if same side n.side then moved a else 0
+written_at side (act.Wire n (made.Write length a)) = if is_same_side side n.side then moved_bytes a else 0
 written_at side a = 0
 
 -- it read the end of input there; it passed the end on there
 abbrev pub ends_at : Side → Act → Bool
-ends_at side (act.Wire n (made.Read most answer.End)) = same side n.side
+ends_at side (act.Wire n (made.Read most answer.End)) = is_same_side side n.side
 ends_at side a = false
 
 abbrev pub shuts_at : Side → Act → Bool
-shuts_at side (act.Wire n (made.Shut answer.Shut)) = same side n.side
+shuts_at side (act.Wire n (made.Shut answer.Shut)) = is_same_side side n.side
 shuts_at side a = false
 
 -- the side from which it brought bytes
 abbrev pub sender : Act → Option Side
-sender (act.Wire n (made.Read most a)) = if nat_lt 0 (moved a) then Some n.side else None
+sender (act.Wire n (made.Read most a)) = if nat_lt 0 (moved_bytes a) then Some n.side else None
 sender a = None
 
 -- how many bytes it offered to the target
 abbrev pub offered_to_target : Act → Option ℕ
-offered_to_target (act.Wire n (made.Write length a)) = if same Target n.side then Some length else None
+offered_to_target (act.Wire n (made.Write length a)) = if is_same_side Target n.side then Some length else None
 offered_to_target a = None
 
-abbrev pub fault_by : Side → CallKind → Answer → Option Fault
-fault_by side call (answer.Failed kind) = Some (Broken side call kind)
-fault_by side call a = None
+abbrev pub answer_fault : Side → CallKind → Answer → Option Fault
+answer_fault side call (answer.Failed kind) = Some (Broken side call kind)
+answer_fault side call a = None
 
-abbrev pub fault_of : Act → Option Fault
-fault_of (act.Wire n (made.Read most a)) = fault_by n.side call.Read a
-fault_of (act.Wire n (made.Write length a)) = fault_by n.side call.Write a
-fault_of (act.Wire n (made.Join a)) = fault_by n.side call.Join a
-fault_of (act.Wire n (made.Shut a)) = fault_by n.side call.Shut a
-fault_of a = None
+abbrev pub act_fault : Act → Option Fault
+act_fault (act.Wire n (made.Read most a)) = answer_fault n.side call.Read a
+act_fault (act.Wire n (made.Write length a)) = answer_fault n.side call.Write a
+act_fault (act.Wire n (made.Join a)) = answer_fault n.side call.Join a
+act_fault (act.Wire n (made.Shut a)) = answer_fault n.side call.Shut a
+act_fault a = None
 
-abbrev pub begins : Act → Bool
-begins (act.Begin slot) = true
-begins a = false
+abbrev pub is_beginning : Act → Bool
+is_beginning (act.Begin slot) = true
+is_beginning a = false
 
 abbrev pub joins : Act → Bool
 joins (act.Wire n (made.Join answer.Joined)) = true
 joins a = false
 
-abbrev pub drops : Act → Bool
-drops (act.Wire n made.Drop) = true
-drops a = false
+abbrev pub drops_wire : Act → Bool
+drops_wire (act.Wire n made.Drop) = true
+drops_wire a = false
 
 -- a turn had ended with no call worth trying: each would block
 abbrev pub settles : Act → Bool
@@ -78,9 +78,9 @@ settles a = false
 
 -- All acts
 
-abbrev pub first_of : {A X : Type 0} → (A → Option X) → List A → Option X
-first_of f [] = None
-first_of f (a ∷ acts) = option_or (f a) (first_of f acts)
+abbrev pub first_found : {A X : Type 0} → (A → Option X) → List A → Option X
+first_found f [] = None
+first_found f (a ∷ acts) = option_or (f a) (first_found f acts)
 
 abbrev pub last_of : {X : Type 0} → (Act → Option X) → List Act → Option X
 last_of f [] = None
@@ -91,13 +91,13 @@ abbrev pub ends_quiet : List Act → Bool
 ends_quiet acts = unwrap_or (last_of (λ a. Some (settles a)) acts) false
 
 -- a number that has reached 2^64 - 1 stays there
-abbrev pub counted : ℕ → ℕ
-counted n = min n 18446744073709551615
+abbrev pub count_capped : ℕ → ℕ
+count_capped n = min n 18446744073709551615
 
 -- what happened at one end
 pub record IsHalf (side : Side) (acts : List Act) (h : Half) : Type 0 where
-  pub read : h.read ≡ counted (sum_by (read_at side) acts)
-  pub written : h.written ≡ counted (sum_by (written_at side) acts)
+  pub read : h.read ≡ count_capped (sum_by (read_at side) acts)
+  pub written : h.written ≡ count_capped (sum_by (written_at side) acts)
   pub ended : h.ended ≡ list_any (ends_at side) acts
   pub shut : h.shut ≡ list_any (shuts_at side) acts
 
@@ -105,36 +105,36 @@ pub record IsHalf (side : Side) (acts : List Act) (h : Half) : Type 0 where
 pub record IsAccount (acts : List Act) (a : Account) : Type 0 where
   pub client : IsHalf Client acts a.client
   pub target : IsHalf Target acts a.target
-  pub first_offer : a.offer ≡ first_of offered_to_target acts
-  pub first_fault : a.fault ≡ first_of fault_of acts
+  pub first_offer : a.offer ≡ first_found offered_to_target acts
+  pub first_fault : a.fault ≡ first_found act_fault acts
   pub last_sender : a.sender ≡ last_of sender acts
   pub joined : a.joined ≡ list_any joins acts
-  pub had_turn : a.had_turn ≡ list_any begins acts
-  pub dropped : a.dropped ≡ list_any drops acts
+  pub had_turn : a.had_turn ≡ list_any is_beginning acts
+  pub dropped : a.dropped ≡ list_any drops_wire acts
   pub quiet : a.is_quiet ≡ ends_quiet acts
 
 -- What it waits for
 
 -- how long the line is that the target is sent first, as its first write shows
-abbrev pub lead_of : Account → ℕ
-lead_of a = if a.has_lead then unwrap_or a.offer 0 else 0
+abbrev pub lead_length : Account → ℕ
+lead_length a = if a.has_lead then unwrap_or a.offer 0 else 0
 
 -- how many bytes wait for the target, and how many for the client
 abbrev pub ring_up : Account → ℕ
-ring_up a = a.client.read - (a.target.written - lead_of a)
+ring_up a = a.client.read - (a.target.written - lead_length a)
 
 abbrev pub ring_down : Account → ℕ
 ring_down a = a.target.read - a.client.written
 
 abbrev pub waits_at_target : Account → Bool
-waits_at_target a = nat_lt 0 (ring_up a) || nat_lt a.target.written (lead_of a)
+waits_at_target a = nat_lt 0 (ring_up a) || nat_lt a.target.written (lead_length a)
 
 -- a call has shown that the target is connected
 abbrev pub is_shown : Account → Bool
 is_shown a = a.joined || (nat_lt 0 a.target.read || (nat_lt 0 a.target.written || (a.target.ended || a.target.shut)))
 
 abbrev pub is_sender : Option Side → Side → Bool
-is_sender (Some a) b = same a b
+is_sender (Some a) b = is_same_side a b
 is_sender None b = false
 
 -- this side may send, and it is its turn: the other side will not send, or it was not this one that sent last

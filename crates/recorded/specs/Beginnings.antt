@@ -11,30 +11,31 @@ is_wait Failed = true
 is_wait did = false
 
 -- a wait of this poller
-abbrev pub waits : ℕ → Act → Bool
-waits poller (Poller number did) = (poller == number) && is_wait did
-waits poller act = false
+abbrev pub waits_poller : ℕ → Act → Bool
+waits_poller poller (Poller number did) = (poller == number) && is_wait did
+waits_poller poller act = false
 
 -- an opening in this slot
 abbrev pub opens : ℕ → Act → Bool
 opens slot (Poller number (Open at generation opening)) = slot == at
 opens slot act = false
 
-abbrev pub has : (Act → Bool) → List Record → Bool
-has is [] = false
-has is (r ∷ records) = is r.act || has is records
+abbrev pub has_act : (Act → Bool) → List Record → Bool
+has_act is [] = false
+has_act is (r ∷ records) = is r.act || has_act is records
 
 -- an act of a poller stays from a wait of it on, and one of a slot from an opening there on
-abbrev pub follows : (ℕ → Bool) → (ℕ → Bool) → Act → Bool
-follows waited opened (Poller number did) = is_wait did || waited number
-follows waited opened (Begin slot) = opened slot
-follows waited opened (End slot) = opened slot
-follows waited opened (Wire name made) = opened name.slot
-follows waited opened act = true
+abbrev pub stays_from : (ℕ → Bool) → (ℕ → Bool) → Act → Bool
+stays_from waited opened (Poller number did) = is_wait did || waited number
+stays_from waited opened (Begin slot) = opened slot
+stays_from waited opened (End slot) = opened slot
+stays_from waited opened (Wire name made) = opened name.slot
+stays_from waited opened act = true
 
 -- a record stays after these, which stay, if its act began after the count, and its beginning is among them
 abbrev pub stays : ℕ → List Record → Record → Bool
-stays from kept r = nat_lt from r.before && follows (λ poller. has (waits poller) kept) (λ slot. has (opens slot) kept) r.act
+stays from kept r =
+    nat_lt from r.before && stays_from (λ poller. has_act (waits_poller poller) kept) (λ slot. has_act (opens slot) kept) r.act
 
 -- What is known of the records that stay, by a flag for each poller and slot
 
@@ -42,10 +43,10 @@ abbrev pub flag_at : List Bool → ℕ → Bool
 flag_at flags at = unwrap_or (slice_get flags at) false
 
 abbrev pub Flags : (ℕ → Act → Bool) → List Record → List Bool → Type 0
-Flags is kept flags = (at : ℕ) → at < length flags → flag_at flags at ≡ has (is at) kept
+Flags is kept flags = (at : ℕ) → at < length flags → flag_at flags at ≡ has_act (is at) kept
 
-abbrev pub Knows : List Record → Beginning → Type 0
-Knows kept b = Flags waits kept b.waited.items × Flags opens kept b.opened.items
+abbrev pub KnowsOf : List Record → Beginning → Type 0
+KnowsOf kept b = Flags waits_poller kept b.waited.items × Flags opens kept b.opened.items
 
 -- the poller and the slot of an act are there
 abbrev pub IsInside : Beginning → Act → Type 0

@@ -2,7 +2,7 @@
 use Rattle.std.specs.{Prelude.{◌≡◌, ◌-◌, ℕ, Bool, true, false, if◌then◌else◌, max, nat_lt, List, [], ◌∷◌, Option, Some, None}}
 use Rattle.token.specs.declared.{name.Name.TheVariants.End, side.Side.{Side, TheVariants.{Client, Target}}}
 use Rattle.records.specs.declared.act.{Act.Act, Answer.Answer}
-use Rattle.recorded.specs.{Accounts.{first_of, read_at, same}, declared.times.Times.Times}
+use Rattle.recorded.specs.{Accounts.{first_found, read_at, is_same_side}, declared.times.Times.Times}
 use Rattle.records.specs.declared.act.Act.TheVariants as act
 use Rattle.records.specs.declared.act.Made.TheVariants as made
 use Rattle.records.specs.declared.act.Answer.TheVariants as answer
@@ -21,43 +21,43 @@ is_done answer.Joined = true
 is_done answer.Shut = true
 is_done a = false
 
-abbrev pub moves : Act → Bool
-moves (act.Wire n (made.Read most a)) = is_done a
-moves (act.Wire n (made.Write length a)) = is_done a
-moves (act.Wire n (made.Join a)) = is_done a
-moves (act.Wire n (made.Shut a)) = is_done a
-moves a = false
+abbrev pub act_moves : Act → Bool
+act_moves (act.Wire n (made.Read most a)) = is_done a
+act_moves (act.Wire n (made.Write length a)) = is_done a
+act_moves (act.Wire n (made.Join a)) = is_done a
+act_moves (act.Wire n (made.Shut a)) = is_done a
+act_moves a = false
 
 -- the target has answered the connect: it was reported, or a call moved something there
 abbrev pub answers : Act → Bool
-answers (act.Poller number (polling.Reported (End n))) = same Target n.side
-answers (act.Wire n made) = if same Target n.side then moves (act.Wire n made) else false
+answers (act.Poller number (polling.Reported (End n))) = is_same_side Target n.side
+answers (act.Wire n made) = if is_same_side Target n.side then act_moves (act.Wire n made) else false
 answers a = false
 
 abbrev pub sends : Side → Act → Bool
 sends side a = nat_lt 0 (read_at side a)
 
-abbrev pub when : (Act → Bool) → Moment → Option ℕ
-when p m = if p m.act then Some m.at else None
+abbrev pub when_moment : (Act → Bool) → Moment → Option ℕ
+when_moment p m = if p m.act then Some m.at else None
 
 -- when something moved last, if before that it was at `since`
 abbrev pub moved_since : ℕ → Moment → ℕ
-moved_since since m = if moves m.act then m.at else since
+moved_since since m = if act_moves m.act then m.at else since
 
 abbrev pub moved_last : ℕ → List Moment → ℕ
 moved_last since [] = since
 moved_last since (m ∷ moments) = moved_last (moved_since since m) moments
 
 -- the longest time in which nothing moved
-abbrev pub longest : ℕ → List Moment → ℕ
-longest since [] = 0
-longest since (m ∷ moments) = max (m.at - since) (longest (moved_since since m) moments)
+abbrev pub longest_still : ℕ → List Moment → ℕ
+longest_still since [] = 0
+longest_still since (m ∷ moments) = max (m.at - since) (longest_still (moved_since since m) moments)
 
 -- the times of a connection that was opened at this time, and then had these moments
 pub record IsTimes (since : ℕ) (moments : List Moment) (t : Times) : Type 0 where
   pub opened : t.opened ≡ since
-  pub answered : t.answered ≡ first_of (when answers) moments
-  pub client : t.client ≡ first_of (when (sends Client)) moments
-  pub target : t.target ≡ first_of (when (sends Target)) moments
+  pub answered : t.answered ≡ first_found (when_moment answers) moments
+  pub client : t.client ≡ first_found (when_moment (sends Client)) moments
+  pub target : t.target ≡ first_found (when_moment (sends Target)) moments
   pub moved : t.moved ≡ moved_last since moments
-  pub silence : t.silence ≡ longest since moments
+  pub silence : t.silence ≡ longest_still since moments

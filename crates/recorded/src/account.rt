@@ -2,7 +2,7 @@
 ghost use Rattle.std.specs.Prelude.{◌≡◌, ◌++◌, ◌∷◌, [], List};
 ghost use Rattle.token.specs.declared.side.Side.{Side};
 ghost use Rattle.records.specs.declared.act.Act.{Act};
-ghost use Rattle.recorded.specs.Accounts.{IsAccount, IsHalf, begins, drops, ends_at, fault_by, fault_of, is_sender, is_shown, joins, lead_of, may_send, moved, offered_to_target, read_at, ring_down, ring_up, same, sender, settles, shuts_at, waits_at_target, waits_of, written_at};
+ghost use Rattle.recorded.specs.Accounts.{IsAccount, IsHalf, is_beginning, drops_wire, ends_at, answer_fault, act_fault, is_sender, is_shown, joins, lead_length, may_send, moved_bytes, offered_to_target, read_at, ring_down, ring_up, is_same_side, sender, settles, shuts_at, waits_at_target, waits_of, written_at};
 
 use records::{Act, Answer, Made};
 use relay_core::{CallKind, Fault};
@@ -137,7 +137,7 @@ impl Account {
 
     /// The length of the line that the target is sent first.
     fn lead(&self) -> u64
-        ensures { result ≡ lead_of self.now }
+        ensures { result ≡ lead_length self.now }
     {
         match self.offer {
             Some(offer) if self.has_lead => offer as u64,
@@ -202,7 +202,7 @@ fn is_sender(sender: Option<Side>, side: Side) -> bool
 }
 
 pub(crate) fn same(a: Side, b: Side) -> bool
-    ensures { result ≡ same a b }
+    ensures { result ≡ is_same_side a b }
 {
     match (a, b) {
         (Side::Client, Side::Client) | (Side::Target, Side::Target) => true,
@@ -211,7 +211,7 @@ pub(crate) fn same(a: Side, b: Side) -> bool
 }
 
 fn moved(answer: Answer) -> u64
-    ensures { result ≡ moved answer }
+    ensures { result ≡ moved_bytes answer }
 {
     match answer {
         Answer::Moved(count) => count as u64,
@@ -278,7 +278,7 @@ fn offered_to_target(act: &Act) -> Option<usize>
 }
 
 fn fault_by(side: Side, call: CallKind, answer: Answer) -> Option<Fault>
-    ensures { result ≡ fault_by side call answer }
+    ensures { result ≡ answer_fault side call answer }
 {
     match answer {
         Answer::Failed(kind) => Some(Fault::Broken { side, call, kind }),
@@ -287,7 +287,7 @@ fn fault_by(side: Side, call: CallKind, answer: Answer) -> Option<Fault>
 }
 
 fn fault_of(act: &Act) -> Option<Fault>
-    ensures { result ≡ fault_of act.now }
+    ensures { result ≡ act_fault act.now }
 {
     let Act::Wire(token, made) = *act else {
         return None;
@@ -302,7 +302,7 @@ fn fault_of(act: &Act) -> Option<Fault>
 }
 
 fn begins(act: &Act) -> bool
-    ensures { result ≡ begins act.now }
+    ensures { result ≡ is_beginning act.now }
 {
     matches!(act, Act::Begin(_))
 }
@@ -314,7 +314,7 @@ fn joins(act: &Act) -> bool
 }
 
 fn drops(act: &Act) -> bool
-    ensures { result ≡ drops act.now }
+    ensures { result ≡ drops_wire act.now }
 {
     matches!(act, Act::Wire(_, Made::Drop))
 }

@@ -1,7 +1,7 @@
 //! What is left out of a file that is not the first part of its recording.
 ghost use Rattle.std.specs.Prelude.{◌≡◌, ◌<◌, ◌∷◌, [], List, IfOk, if◌then◌else◌, length, slice_set, true};
 ghost use Rattle.records.specs.declared.act.Record.{Record};
-ghost use Rattle.recorded.specs.Beginnings.{Knows, IsInside, flag_at, follows, is_wait, stays};
+ghost use Rattle.recorded.specs.Beginnings.{KnowsOf, IsInside, flag_at, stays_from, is_wait, stays};
 
 use crate::reading::Sizes;
 use records::{Act, Opening, Polling, Record};
@@ -32,7 +32,7 @@ pub(crate) struct Beginning {
 impl Beginning {
     /// The file begins after this count, and nothing of it was read.
     pub(crate) fn new(alloc: Global, sizes: Sizes, from: u64) -> Result<Beginning, AllocError>
-        ensures new { IfOk result (λ b. Knows [] b × (b.from ≡ from)) }
+        ensures new { IfOk result (λ b. KnowsOf [] b × (b.from ≡ from)) }
         ensures sized { IfOk result (λ b. (length b.waited.items ≡ sizes.header.pollers) × (length b.opened.items ≡ sizes.header.slots)) }
     {
         Ok(Beginning {
@@ -50,9 +50,9 @@ impl Beginning {
 
     /// Whether the next record of the file stays.
     pub(crate) fn keeps(&mut self, record: &Record) -> bool
-        ensures stays { (kept : List Record) → Knows kept self.old → IsInside self.old record.now.act
+        ensures stays { (kept : List Record) → KnowsOf kept self.old → IsInside self.old record.now.act
             → (result ≡ stays self.old.from kept record.now)
-            × Knows (if result then record.now ∷ kept else kept) self.new }
+            × KnowsOf (if result then record.now ∷ kept else kept) self.new }
         ensures from { self.new.from ≡ self.old.from }
         ensures sized { (length self.new.waited.items ≡ length self.old.waited.items)
             × (length self.new.opened.items ≡ length self.old.opened.items) }
@@ -65,7 +65,7 @@ impl Beginning {
     }
 
     fn follows(&self, act: &Act) -> bool
-        ensures { result ≡ follows (flag_at self.now.waited.items) (flag_at self.now.opened.items) act.now }
+        ensures { result ≡ stays_from (flag_at self.now.waited.items) (flag_at self.now.opened.items) act.now }
     {
         match *act {
             Act::Poller(poller, did) => is_wait(did) || flag_at(self.waited.as_slice(), poller),
@@ -80,8 +80,8 @@ impl Beginning {
         ensures from { self.new.from ≡ self.old.from }
         ensures sized { (length self.new.waited.items ≡ length self.old.waited.items)
             × (length self.new.opened.items ≡ length self.old.opened.items) }
-        ensures known { (kept : List Record) → (r : Record) → r.act ≡ act.now → Knows kept self.old → IsInside self.old act.now
-            → Knows (r ∷ kept) self.new }
+        ensures known { (kept : List Record) → (r : Record) → r.act ≡ act.now → KnowsOf kept self.old → IsInside self.old act.now
+            → KnowsOf (r ∷ kept) self.new }
     {
         match *act {
             Act::Poller(poller, did) if is_wait(did) => set(self.waited.as_mut_slice(), poller),

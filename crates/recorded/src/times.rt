@@ -1,6 +1,6 @@
 //! When things happened to a connection, in microseconds since the recording began.
 ghost use Rattle.std.specs.Prelude.{◌≡◌, ◌++◌, ◌∷◌, [], ℕ, List, Some, None, if◌then◌else◌};
-ghost use Rattle.recorded.specs.Moments.{IsTimes, Moment, answers, is_done, moves, sends};
+ghost use Rattle.recorded.specs.Moments.{IsTimes, Moment, answers, is_done, act_moves, sends};
 
 use crate::account::{read_at, same};
 use records::{Act, Answer, Made, Polling};
@@ -52,7 +52,7 @@ impl Times {
 }
 
 fn moved_since(since: u64, at: u64, act: &Act) -> u64
-    ensures { result ≡ (if moves act.now then at else since) }
+    ensures { result ≡ (if act_moves act.now then at else since) }
 {
     if moves(act) { at } else { since }
 }
@@ -73,7 +73,7 @@ fn is_done(answer: Answer) -> bool
 }
 
 fn moves(act: &Act) -> bool
-    ensures { result ≡ moves act.now }
+    ensures { result ≡ act_moves act.now }
 {
     match *act {
         Act::Wire(

@@ -5,8 +5,8 @@ use Rattle.records.specs.{Parts.Are, Texts.{header_text, record_text}, declared.
 abbrev pub header_line : Header → List ℕ
 header_line header = header_text header ++ codes "\n"
 
-abbrev pub line_of : Record → List ℕ
-line_of r = record_text r ++ codes "\n"
+abbrev pub record_line : Record → List ℕ
+record_line r = record_text r ++ codes "\n"
 
 abbrev pub joined : List (List Record) → List Record
 joined [] = []
@@ -25,7 +25,7 @@ first_line header (part ∷ before) = header_line (record header { from = Some (
 -- the text of a file of these records after others
 abbrev pub part_text : Header → List (List Record) → List Record → List ℕ
 part_text header before [] = first_line header before
-part_text header before (r ∷ part) = part_text header before part ++ line_of r
+part_text header before (r ∷ part) = part_text header before part ++ record_line r
 
 abbrev pub texts_of : Header → List (List Record) → List (List ℕ)
 texts_of header [] = []
@@ -40,14 +40,14 @@ is_full Full = true
 is_full act = false
 
 -- whether the last of these records says that others were lost
-abbrev pub is_over : List Record → Bool
-is_over [] = false
-is_over (r ∷ records) = is_full r.act
+abbrev pub ends_short : List Record → Bool
+ends_short [] = false
+ends_short (r ∷ records) = is_full r.act
 
 -- nothing of a file stands after such a record
 abbrev pub EndsThere : List Record → Type 0
 EndsThere [] = Unit {0}
-EndsThere (r ∷ part) = (is_over part ≡ false) × EndsThere part
+EndsThere (r ∷ part) = (ends_short part ≡ false) × EndsThere part
 
 abbrev pub EachEndsThere : List (List Record) → Type 0
 EachEndsThere [] = Unit {0}
@@ -56,7 +56,7 @@ EachEndsThere (part ∷ before) = EndsThere part × EachEndsThere before
 -- The files with these texts, if they are known, hold the lines of these records and no others, each once and in order. Each
 -- begins with its first line, has at most `most` bytes, and ends where records were lost. The last one has `size`, and no
 -- record a greater count; `over`: it ends there
-pub record Holds (header : Header) (most : ℕ) (records : List Record) (texts : Option (List (List ℕ)))
+pub record HoldsLines (header : Header) (most : ℕ) (records : List Record) (texts : Option (List (List ℕ)))
     (size greatest : ℕ) (over : Bool) : Type 0 where
   pub last : List Record
   pub before : List (List Record)
@@ -66,4 +66,4 @@ pub record Holds (header : Header) (most : ℕ) (records : List Record) (texts :
   pub long : length (part_text header before last) ≡ size
   pub highest : greatest_of records ≡ greatest
   pub lost : EachEndsThere (last ∷ before)
-  pub end : is_over last ≡ over
+  pub end : ends_short last ≡ over

@@ -56,12 +56,12 @@ refused old new error =
     else answer.Failed (kind_of_error error)
 
 -- what a wire answered: a read of no bytes is the end, and a write of none is a failure
-abbrev pub answered : WireView → WireView → Asked → Given → Answer
-answered old new asked (Refused error) = refused old new error
-answered old new asked (Brought bytes) = if length bytes == 0 then answer.End else answer.Moved (length bytes)
-answered old new asked (Took n) = if n == 0 then answer.Failed kind.Zero else answer.Moved n
-answered old new ask.Join Done = answer.Joined
-answered old new asked Done = answer.Shut
+abbrev pub answer_of_wire : WireView → WireView → Asked → Given → Answer
+answer_of_wire old new asked (Refused error) = refused old new error
+answer_of_wire old new asked (Brought bytes) = if length bytes == 0 then answer.End else answer.Moved (length bytes)
+answer_of_wire old new asked (Took n) = if n == 0 then answer.Failed kind.Zero else answer.Moved n
+answer_of_wire old new ask.Join Done = answer.Joined
+answer_of_wire old new asked Done = answer.Shut
 
 -- a call of a wire, and its answer
 abbrev pub made_of : Asked → Answer → Made
@@ -71,8 +71,8 @@ made_of ask.Join answer = made.Join answer
 made_of ask.Shut answer = made.Shut answer
 
 -- the wire of this end was dropped
-abbrev pub dropped : EndName → Act
-dropped name = Wire name made.Drop
+abbrev pub wire_dropped : EndName → Act
+wire_dropped name = Wire name made.Drop
 
 abbrev pub drops : Act → Bool
 drops (Wire name made.Drop) = true
@@ -90,19 +90,19 @@ pub data Step : Type 0 where
   Another : Step
 
 -- these acts and nothing else were put, in order, with these counts
-abbrev pub Puts : {S : Type 0} → (Step → S → S → Type 0) → ℕ → ℕ → List Act → S → S → Type 0
-Puts did before after [] old new = new ≡ old
-Puts did before after (act ∷ acts) old new =
-    (put : _) × did (Put (record { before = before; after = after; act = act })) old put × Puts did before after acts put new
+abbrev pub PutsActs : {S : Type 0} → (Step → S → S → Type 0) → ℕ → ℕ → List Act → S → S → Type 0
+PutsActs did before after [] old new = new ≡ old
+PutsActs did before after (act ∷ acts) old new =
+    (put : _) × did (Put (record { before = before; after = after; act = act })) old put × PutsActs did before after acts put new
 
 -- these acts were put with this count and one that was taken after them; without this count nothing was done
-abbrev pub Ends : {S : Type 0} → (Step → S → S → Type 0) → Option ℕ → List Act → S → S → Type 0
-Ends did None acts old new = new ≡ old
-Ends did (Some before) acts old new = (after : ℕ) × (ended : _) × did (Ended after) old ended × Puts did before after acts ended new
+abbrev pub EndsActs : {S : Type 0} → (Step → S → S → Type 0) → Option ℕ → List Act → S → S → Type 0
+EndsActs did None acts old new = new ≡ old
+EndsActs did (Some before) acts old new = (after : ℕ) × (ended : _) × did (Ended after) old ended × PutsActs did before after acts ended new
 
 -- a count was taken, and then these acts were put, if anything is recorded now
 abbrev pub Records : {S : Type 0} → (Step → S → S → Type 0) → List Act → S → S → Type 0
-Records did acts old new = (before : Option ℕ) × (begun : _) × did (Began before) old begun × Ends did before acts begun new
+Records did acts old new = (before : Option ℕ) × (begun : _) × did (Began before) old begun × EndsActs did before acts begun new
 
 -- the time was read if a wait gave anything
 abbrev pub ReadsTime : {S : Type 0} → (Step → S → S → Type 0) → List ℕ → Option ℕ → S → S → Type 0
@@ -114,12 +114,12 @@ ReadsTime did (number ∷ numbers) time old new = (micros : ℕ) × (time ≡ So
 abbrev pub EndsWait : {S : Type 0} → (Step → S → S → Type 0) → Option ℕ → ℕ → List ℕ → S → S → Type 0
 EndsWait did None poller numbers old new = new ≡ old
 EndsWait did (Some before) poller numbers old new =
-    (time : Option ℕ) × (read : _) × ReadsTime did numbers time old read × Ends did (Some before) (reports poller time numbers) read new
+    (time : Option ℕ) × (read : _) × ReadsTime did numbers time old read × EndsActs did (Some before) (reports poller time numbers) read new
 
 -- a wait for reports had this result, and left these numbers in the batch
 abbrev pub EndsPoll : {S T : Type 0} → (Step → S → S → Type 0) → Option ℕ → ℕ → Result T Error → List ℕ → S → S → Type 0
 EndsPoll did before poller (Ok done) numbers old new = EndsWait did before poller numbers old new
-EndsPoll did before poller (Err error) numbers old new = Ends did before (Poller poller (not_waited (error_kind error)) ∷ []) old new
+EndsPoll did before poller (Err error) numbers old new = EndsActs did before (Poller poller (not_waited (error_kind error)) ∷ []) old new
 
 abbrev pub RecordsPoll : {S T : Type 0} → (Step → S → S → Type 0) → ℕ → Result T Error → List ℕ → S → S → Type 0
 RecordsPoll did poller result numbers old new =
@@ -145,7 +145,7 @@ BegunBy did (Some name) before old new = did (Began before) old new
 -- the act at an end has ended
 abbrev pub EndedBy : {S : Type 0} → (Step → S → S → Type 0) → Option EndName → Option ℕ → Made → S → S → Type 0
 EndedBy did None before made old new = new ≡ old
-EndedBy did (Some name) before made old new = Ends did before (Wire name made ∷ []) old new
+EndedBy did (Some name) before made old new = EndsActs did before (Wire name made ∷ []) old new
 
 -- this was recorded of a wire; nothing, if its end has no name yet
 abbrev pub WireRecords : {S : Type 0} → (Step → S → S → Type 0) → Option EndName → Made → S → S → Type 0
@@ -157,6 +157,6 @@ abbrev pub SettledAt : {S : Type 0} → (Step → S → S → Type 0) → EndNam
 SettledAt did name Client old new = new ≡ old
 SettledAt did name Target old new = RecordsAtOnce did (Wire name made.Settle) old new
 
-abbrev pub Settled : {S : Type 0} → (Step → S → S → Type 0) → Option EndName → S → S → Type 0
-Settled did None old new = new ≡ old
-Settled did (Some name) old new = SettledAt did name name.side old new
+abbrev pub SettledOf : {S : Type 0} → (Step → S → S → Type 0) → Option EndName → S → S → Type 0
+SettledOf did None old new = new ≡ old
+SettledOf did (Some name) old new = SettledAt did name name.side old new

@@ -1,7 +1,7 @@
 //! Which line of a recording goes into which of its files.
 ghost use Rattle.std.specs.Prelude.{◌≡◌, ◌≤◌, ◌+◌, ◌∷◌, [], List, OnOk, IfOk, false, length, max};
-ghost use Rattle.records.specs.{Parts.{Adds, Are}, declared.act.Record.Record};
-ghost use Rattle.recording.specs.Lines.{Holds, header_line, is_full, line_of};
+ghost use Rattle.records.specs.{Parts.{AddsParts, Are}, declared.act.Record.Record};
+ghost use Rattle.recording.specs.Lines.{HoldsLines, header_line, is_full, record_line};
 
 use arrayvec::ArrayString;
 use records::{Act, Header, MAX_RECORD, Parts, Record};
@@ -36,7 +36,7 @@ impl<P: Parts> Lines<P> {
     /// that is more.
     pub fn begin(parts: P, header: Header, most: u64) -> io::Result<Lines<P>>
         ensures held { IfOk result (λ l. Are (P.texts parts) ([] ∷ [])
-            → Holds header l.most [] (P.texts l.parts) l.length l.greatest l.is_over) }
+            → HoldsLines header l.most [] (P.texts l.parts) l.length l.greatest l.is_over) }
         ensures header { IfOk result (λ l. l.header ≡ header) }
         ensures most { IfOk result (λ l. l.most ≡ max most 1024) }
     {
@@ -56,9 +56,9 @@ impl<P: Parts> Lines<P> {
     /// Puts the line of a record after the others.
     pub fn put(&mut self, record: &Record) -> io::Result<()>
         ensures held { OnOk result ((records : List Record)
-            → Holds self.old.header self.old.most records (P.texts self.old.parts) self.old.length self.old.greatest
+            → HoldsLines self.old.header self.old.most records (P.texts self.old.parts) self.old.length self.old.greatest
             self.old.is_over
-            → Holds self.new.header self.new.most (record.now ∷ records) (P.texts self.new.parts) self.new.length
+            → HoldsLines self.new.header self.new.most (record.now ∷ records) (P.texts self.new.parts) self.new.length
             self.new.greatest self.new.is_over) }
         ensures same { (self.new.header ≡ self.old.header) × (self.new.most ≡ self.old.most) }
     {
@@ -74,9 +74,9 @@ impl<P: Parts> Lines<P> {
     fn make_room(&mut self, length: u64) -> io::Result<()>
         requires { length ≤ 256 }
         ensures held { OnOk result ((records : List Record)
-            → Holds self.old.header self.old.most records (P.texts self.old.parts) self.old.length self.old.greatest
+            → HoldsLines self.old.header self.old.most records (P.texts self.old.parts) self.old.length self.old.greatest
             self.old.is_over
-            → Holds self.new.header self.new.most records (P.texts self.new.parts) self.new.length self.new.greatest
+            → HoldsLines self.new.header self.new.most records (P.texts self.new.parts) self.new.length self.new.greatest
             self.new.is_over) }
         ensures room { OnOk result (self.new.length + length ≤ self.new.most) }
         ensures open { OnOk result (self.new.is_over ≡ false) }
@@ -100,7 +100,7 @@ impl<P: Parts> Lines<P> {
     /// Adds this to the last file.
     fn add(&mut self, bytes: &[u8]) -> io::Result<()>
         requires { self.old.length + length bytes.now ≤ self.old.most }
-        ensures added { OnOk result (Adds bytes.now (P.texts self.old.parts) (P.texts self.new.parts)) }
+        ensures added { OnOk result (AddsParts bytes.now (P.texts self.old.parts) (P.texts self.new.parts)) }
         ensures length { self.new.length ≡ self.old.length + length bytes.now }
         ensures same { (self.new.header ≡ self.old.header) × (self.new.most ≡ self.old.most) × (self.new.greatest ≡ self.old.greatest) }
         ensures over { self.new.is_over ≡ self.old.is_over }
@@ -133,7 +133,7 @@ fn header_line(header: &Header) -> io::Result<ArrayString<MAX_HEADER>>
 }
 
 fn line_of(record: &Record) -> io::Result<ArrayString<MAX_LINE>>
-    ensures { IfOk result (λ line. line.bytes ≡ line_of record.now) }
+    ensures { IfOk result (λ line. line.bytes ≡ record_line record.now) }
 {
     let mut line = ArrayString::<MAX_LINE>::new();
     match writeln!(line, "{record}") {

@@ -1,7 +1,7 @@
 // What a thread records by. Only here is a record made, but for the last, and an `Inner` opened.
 ghost use Rattle.std.specs.{Prelude.{◌≡◌, List, None, false, [], ◌∷◌}, Borrow.sem};
 ghost use Rattle.records.specs.declared.act.Act.{Act};
-ghost use Rattle.recording.specs.{Lending.LendsInner, Records.{drops, dropped, Step, Began, Timed, Ended, AtOnce, Put, Another, Ends, EndsWait, Puts, ReadsTime, RecordsAtOnce, with_time}};
+ghost use Rattle.recording.specs.{Lending.LendsInner, Records.{drops, wire_dropped, Step, Began, Timed, Ended, AtOnce, Put, Another, EndsActs, EndsWait, PutsActs, ReadsTime, RecordsAtOnce, with_time}};
 
 use engine::Wire;
 use records::{Act, Made, Polling, Record};
@@ -83,21 +83,21 @@ impl<S: Sink> Recorder<S> {
     /// Records an act that has ended. Only [`Recorder::record_gone`] records that a wire was dropped.
     pub(crate) fn record(&mut self, begun: Begun, act: Act)
         requires { drops act ≡ false }
-        ensures { Ends S.did begun.0 (act ∷ []) self.old.sink self.new.sink }
+        ensures { EndsActs S.did begun.0 (act ∷ []) self.old.sink self.new.sink }
     {
         let Begun(before) = begun;
         self.record_from(before, act);
     }
 
     pub(crate) fn record_gone(&mut self, gone: Gone, name: Token)
-        ensures { Ends S.did gone.0 (dropped name ∷ []) self.old.sink self.new.sink }
+        ensures { EndsActs S.did gone.0 (wire_dropped name ∷ []) self.old.sink self.new.sink }
     {
         let Gone(before) = gone;
         self.record_from(before, Act::Wire(name, Made::Drop));
     }
 
     fn record_from(&mut self, before: Option<u64>, act: Act)
-        ensures { Ends S.did before (act ∷ []) self.old.sink self.new.sink }
+        ensures { EndsActs S.did before (act ∷ []) self.old.sink self.new.sink }
     {
         if let Some(before) = before {
             let after = self.sink.end();
@@ -127,8 +127,8 @@ impl<S: Sink> Recorder<S> {
 
     /// Puts the time of a wait, if it was read.
     fn put_time(&mut self, before: u64, after: u64, poller: usize, time: Option<u64>)
-        ensures { (acts : List Act) → (new : _) → Puts S.did before after acts self.new.sink new
-            → Puts S.did before after (with_time poller time acts) self.old.sink new }
+        ensures { (acts : List Act) → (new : _) → PutsActs S.did before after acts self.new.sink new
+            → PutsActs S.did before after (with_time poller time acts) self.old.sink new }
     {
         if let Some(micros) = time {
             let act = Act::Poller(poller, Polling::Time(micros));

@@ -2,7 +2,7 @@
 ghost use Rattle.std.specs.{Prelude.{◌≡◌, ◌≢◌, None}, IoError.error_kind};
 ghost use Rattle.records.specs.declared.act.Made.TheVariants.{Drop};
 ghost use Rattle.engine.specs.Wires.{counts_alone};
-ghost use Rattle.recording.specs.Records.{answered, made_of, refused, BegunBy, EndedBy, WireRecords, Settled};
+ghost use Rattle.recording.specs.Records.{answer_of_wire, made_of, refused, BegunBy, EndedBy, WireRecords, SettledOf};
 
 use crate::recorder::{Begun, Inner, Recorder, Sink};
 use common::Settle;
@@ -117,7 +117,7 @@ impl<W: Wire + Drop, S: Sink> Wire for RecordedWire<W, S> {
     ghost told = { λ w. W.told w.inner };
 
     ghost does = { λ asked given old new. W.does asked given old.inner new.inner
-        × WireRecords S.did old.name (made_of asked (answered (W.told old.inner) (W.told new.inner) asked given))
+        × WireRecords S.did old.name (made_of asked (answer_of_wire (W.told old.inner) (W.told new.inner) asked given))
         old.recorder.sink new.recorder.sink };
 
     fn read(&mut self, buffer: &mut [u8]) -> io::Result<usize> {
@@ -191,7 +191,7 @@ impl<W: Settle + Drop, S: Sink> Settle for RecordedWire<W, S> {
     fn settle(&mut self)
         ensures same { W.told self.new.inner ≡ W.told self.old.inner }
         ensures settled { W.settled self.new.inner }
-        ensures recorded { Settled S.did self.old.name self.old.recorder.sink self.new.recorder.sink }
+        ensures recorded { SettledOf S.did self.old.name self.old.recorder.sink self.new.recorder.sink }
     {
         let begun = Begun::unrecorded();
         self.inner.during(&begun).settle();

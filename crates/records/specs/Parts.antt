@@ -11,14 +11,14 @@ abbrev pub add_to : List ℕ → List (List ℕ) → List (List ℕ)
 add_to bytes [] = bytes ∷ []
 add_to bytes (text ∷ texts) = (text ++ bytes) ∷ texts
 
-abbrev pub Adds : List ℕ → Option (List (List ℕ)) → Option (List (List ℕ)) → Type 0
-Adds bytes (Some old) new = Are new (add_to bytes old)
-Adds bytes None new = new ≡ None
+abbrev pub AddsParts : List ℕ → Option (List (List ℕ)) → Option (List (List ℕ)) → Type 0
+AddsParts bytes (Some old) new = Are new (add_to bytes old)
+AddsParts bytes None new = new ≡ None
 
 abbrev pub Begins : Option (List (List ℕ)) → Option (List (List ℕ)) → Type 0
 Begins (Some old) new = Are new ([] ∷ old)
 Begins None new = new ≡ None
 
-abbrev pub Stays : Option (List (List ℕ)) → Option (List (List ℕ)) → Type 0
-Stays (Some old) new = Are new old
-Stays None new = new ≡ None
+abbrev pub PartsStay : Option (List (List ℕ)) → Option (List (List ℕ)) → Type 0
+PartsStay (Some old) new = Are new old
+PartsStay None new = new ≡ None

@@ -1,6 +1,6 @@
 //! The files of a recording: one, or one after the other.
 ghost use Rattle.std.specs.Prelude.{ℕ, List, Option, None, OnOk};
-ghost use Rattle.records.specs.Parts.{Adds, Begins, Stays};
+ghost use Rattle.records.specs.Parts.{AddsParts, Begins, PartsStay};
 
 use std::io;
 
@@ -11,7 +11,7 @@ pub trait Parts: Drop {
 
     /// Adds bytes to the last file.
     fn add(&mut self, bytes: &[u8]) -> io::Result<()>
-        ensures { OnOk result (Adds bytes.now (texts self.old) (texts self.new)) };
+        ensures { OnOk result (AddsParts bytes.now (texts self.old) (texts self.new)) };
 
     /// Begins another file, after the last one.
     fn begin_next(&mut self) -> io::Result<()>
@@ -19,5 +19,5 @@ pub trait Parts: Drop {
 
     /// What was added can be read once this returns.
     fn flush(&mut self) -> io::Result<()>
-        ensures { OnOk result (Stays (texts self.old) (texts self.new)) };
+        ensures { OnOk result (PartsStay (texts self.old) (texts self.new)) };
 }

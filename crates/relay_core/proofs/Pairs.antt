@@ -2,7 +2,7 @@
 -- list of them do to it.
 use Rattle.std.{proofs.{Common.{Bool, List, None, Option, Some, [], append-nil, append_assoc, arith, inl, inr, length, option_and_then, refl, sym, take, take-append-drop, true, ℕ, ◌++◌, ◌↔◌, ◌∙◌, ◌∷◌, ◌≡◌, ◌≤◌, ◌⊎◌}, Math.Seq.drop-nil, lemmas.{Grind.common_steps, Option.{cond_some, option_and_then_some}}}, specs.{Option.{option_or}, Prelude.{IfSome, if◌then◌else◌, option_map}}}
 use Rattle.flow.{proofs.Front.{front_offers, take-front, waiting-dropped}, specs.Stream.{waiting}}
-use Rattle.relay_core.specs.{Runs.{brought, Answered, Event, Expired, Reported, brought_by, carried_by, ever_brought, ever_carried, happened, through, carried, or_nothing, answered}, Idle.{is_overdue, timed_out}, Laws.{IsRunOf, IsClosedLast, AnswersNext, AnswersAreEvents, AnswersAreToNextCalls, AnswersKeepOrder, AnswersKeepPlace, AnswersPassEndLast, ExpiriesChangeVerdictAlone, FailuresAreTold, IsAtRest, IsOverdue, IsPossible, LivePairsRest, OnlyOverduePairsExpire, PassesEndLast, RunsKeepOrder, RunsKeepPlace, RunsPassEndLast, TellsOf, place_of}, Order.{call_for, next_call, offer}, Pairs.{PairState, is_live, noted, stream_of, verdict}, Replies.{AnswerValue, after, fits}, declared.{call.Call.{Call}, verdict.Fault.{Fault}}}
+use Rattle.relay_core.specs.{Runs.{brought, Answered, Event, Expired, Reported, brought_by, carried_by, ever_brought, ever_carried, pair_after, through, carried, or_nothing, answered}, Idle.{is_overdue, timed_out}, Laws.{IsRunOf, IsClosedLast, AnswersNext, AnswersAreEvents, AnswersAreToNextCalls, AnswersKeepOrder, AnswersKeepPlace, AnswersPassEndLast, ExpiriesChangeVerdictAlone, FailuresAreTold, IsAtRest, IsOverdue, IsPossible, LivePairsRest, OnlyOverduePairsExpire, PassesEndLast, RunsKeepOrder, RunsKeepPlace, RunsPassEndLast, TellsOf, pair_place}, Order.{call_for, next_call, offer}, Pairs.{PairState, is_live, noted, stream_of, verdict}, Replies.{AnswerValue, after, fits}, declared.{call.Call.{Call}, verdict.Fault.{Fault}}}
 use Rattle.token.specs.{Sides.{inward, opposite}, declared.{direction.Direction.{Direction}, side.Side.{Side}}}
 use Rattle.relay_core.specs.declared.verdict.Verdict.TheVariants as verdict
 
@@ -91,7 +91,7 @@ expiries_change_verdict_alone now limit p = alone (is_overdue now limit p) p
 record Keeps (brings carries : Direction → List ℕ) (p q : PairState) : Type 0 where
   pub order : (d : Direction) → waiting (stream_of p d) ++ brings d ≡ carries d ++ waiting (stream_of q d)
   pub end_last : (d : Direction) → IsClosedLast (stream_of p d) → IsClosedLast (stream_of q d)
-  pub place : place_of q ≡ place_of p
+  pub place : pair_place q ≡ pair_place p
 
 moved_nothing : (p q : PairState) → (q ≡ noted p) ⊎ ((q ≡ timed_out p) ⊎ (q ≡ p)) → Keeps (λ d. []) (λ d. []) p q
 moved_nothing p q e = grind (arith, common_steps, append-nil)
@@ -104,7 +104,7 @@ answer_keeps now p call reply a = record {
   place = answers_keep_place now p call reply;
 }
 
-event_keeps : (p q : PairState) (event : Event) → happened p event ≡ Some q → Keeps (λ d. brought_by p d event) (λ d. carried_by p d event) p q
+event_keeps : (p q : PairState) (event : Event) → pair_after p event ≡ Some q → Keeps (λ d. brought_by p d event) (λ d. carried_by p d event) p q
 event_keeps p q (Answered now reply) e =
     let s = answers_are_to_next_calls now p q reply e in
     rw s.answers.next (rw (← s.after_it) at (answer_keeps now p s.call reply s.answers))
@@ -116,7 +116,7 @@ seam r b1 b2 c1 c2 s t first rest = grind (arith, append_assoc)
 
 run_keeps : (p q : PairState) (events : List Event) → through p events ≡ Some q → Keeps (λ d. ever_brought p d events) (λ d. ever_carried p d events) p q
 run_keeps p q [] h = moved_nothing p q (inr (inr (cc)))
-run_keeps p q (event ∷ events) h = option_and_then_some (λ m. through m events) (happened p event) q h (λ m is rest.
+run_keeps p q (event ∷ events) h = option_and_then_some (λ m. through m events) (pair_after p event) q h (λ m is rest.
     let s = event_keeps p m event is in
     let t = run_keeps m q events rest in
     record {

@@ -62,8 +62,8 @@ pub record Place : Type 0 where
   pub up_capacity : ℕ
   pub down_capacity : ℕ
 
-abbrev pub place_of : PairState → Place
-place_of p = record { slot = p.slot; generation = p.generation; up_capacity = p.up.capacity; down_capacity = p.down.capacity }
+abbrev pub pair_place : PairState → Place
+pair_place p = record { slot = p.slot; generation = p.generation; up_capacity = p.up.capacity; down_capacity = p.down.capacity }
 
 -- no call that serves this direction is possible and worth trying
 pub record IsAtRest (p : PairState) (d : Direction) : Type 0 where
@@ -95,7 +95,7 @@ OnlyEndsAreSeen =
     ↔ (((stream_of p d).end_seen ≡ true) ⊎ ((direction_of call ≡ d) × (reply ≡ End)))
 
 abbrev pub AnswersKeepPlace : Type 0
-AnswersKeepPlace = (now : ℕ) (p : PairState) (call : Call) (reply : AnswerValue) → place_of (after now p call reply) ≡ place_of p
+AnswersKeepPlace = (now : ℕ) (p : PairState) (call : Call) (reply : AnswerValue) → pair_place (after now p call reply) ≡ pair_place p
 
 -- an answer fails a pair only if the call failed, and the fault names that call
 abbrev pub FailuresAreTold : Type 0
@@ -155,7 +155,7 @@ abbrev pub FreshPairsKeepEndLast : Type 0
 FreshPairsKeepEndLast = (slot generation capacity now : ℕ) (lead : List ℕ) → KeepsEndLast (fresh slot generation capacity now lead)
 
 abbrev pub RunsKeepPlace : Type 0
-RunsKeepPlace = (p q : PairState) (events : List Event) → through p events ≡ Some q → place_of q ≡ place_of p
+RunsKeepPlace = (p q : PairState) (events : List Event) → through p events ≡ Some q → pair_place q ≡ pair_place p
 
 -- a list of answers at one second does the same as the run of these answers
 pub record IsRunOf (now : ℕ) (p : PairState) (replies : List AnswerValue) : Type 0 where

@@ -55,15 +55,15 @@ pub data Event : Type 0 where
   Expired : ℕ → ℕ → Event
 
 -- the pair after an event; None if the event cannot happen: only an overdue pair expires
-abbrev pub happened : PairState → Event → Option PairState
-happened p (Answered now reply) = answered now p reply
-happened p Reported = Some (noted p)
-happened p (Expired now limit) = if is_overdue now limit p then Some (timed_out p) else None
+abbrev pub pair_after : PairState → Event → Option PairState
+pair_after p (Answered now reply) = answered now p reply
+pair_after p Reported = Some (noted p)
+pair_after p (Expired now limit) = if is_overdue now limit p then Some (timed_out p) else None
 
 -- the pair after a list of events; None if one cannot happen
 abbrev pub through : PairState → List Event → Option PairState
 through p [] = Some p
-through p (event ∷ events) = option_and_then (λ (q : PairState). through q events) (happened p event)
+through p (event ∷ events) = option_and_then (λ (q : PairState). through q events) (pair_after p event)
 
 -- the bytes that an event brings into a direction
 abbrev pub brought_by : PairState → Direction → Event → List ℕ
@@ -79,10 +79,10 @@ carried_by p d event = []
 abbrev pub ever_brought : PairState → Direction → List Event → List ℕ
 ever_brought p d [] = []
 ever_brought p d (event ∷ events) =
-    brought_by p d event ++ or_nothing (option_map (λ (q : PairState). ever_brought q d events) (happened p event))
+    brought_by p d event ++ or_nothing (option_map (λ (q : PairState). ever_brought q d events) (pair_after p event))
 
 -- all bytes that a list of events takes out
 abbrev pub ever_carried : PairState → Direction → List Event → List ℕ
 ever_carried p d [] = []
 ever_carried p d (event ∷ events) =
-    carried_by p d event ++ or_nothing (option_map (λ (q : PairState). ever_carried q d events) (happened p event))
+    carried_by p d event ++ or_nothing (option_map (λ (q : PairState). ever_carried q d events) (pair_after p event))

@@ -46,13 +46,13 @@ action_of last (act.Begin slot) = Some Began
 action_of last (act.Wire n made) = action_of_wire (drops_other last n) n made
 action_of last act = None
 
-abbrev pub and_then : Option Action → List Action → List Action
-and_then (Some action) more = action ∷ more
-and_then None more = more
+abbrev pub and_actions : Option Action → List Action → List Action
+and_actions (Some action) more = action ∷ more
+and_actions None more = more
 
 abbrev pub trace_after : Act → List Numbered → List Action
 trace_after last [] = []
-trace_after last (r ∷ records) = and_then (action_of last r.record.act) (trace_after r.record.act records)
+trace_after last (r ∷ records) = and_actions (action_of last r.record.act) (trace_after r.record.act records)
 
 -- the actions of records, of which the first follows no drop
 abbrev pub trace_of_records : List Numbered → List Action
@@ -109,7 +109,7 @@ trace_next None f = []
 -- the actions of the events of a run
 abbrev pub trace_of_run : State → List Event → List Action
 trace_of_run st [] = []
-trace_of_run st (e ∷ events) = and_then (action_in st e) (trace_next (step st e) (λ q. trace_of_run q events))
+trace_of_run st (e ∷ events) = and_actions (action_in st e) (trace_next (step st e) (λ q. trace_of_run q events))
 
 -- What a recording shows
 
@@ -143,15 +143,15 @@ pub record IsOneRun (header : Header) (failed : Option ℕ) (records : List Numb
 abbrev pub IsConnection : Header → Option ℕ → List Numbered → Type 0
 IsConnection header failed records = HasNoTurn (trace_of_records records) ⊎ IsOneRun header failed records
 
-abbrev pub joined : List (List Numbered) → List Numbered
-joined [] = []
-joined (records ∷ more) = records ++ joined more
+abbrev pub joined_acts : List (List Numbered) → List Numbered
+joined_acts [] = []
+joined_acts (records ∷ more) = records ++ joined_acts more
 
 -- the records of a slot are those of its connections, one after the other. Each connection is a run of the machine, or
 -- had no turn
 pub record AreRuns (header : Header) (failed : Option ℕ) (records : List Numbered) : Type 0 where
   pub connections : List (List Numbered)
-  pub all : joined connections ≡ records
+  pub all : joined_acts connections ≡ records
   pub each : All (IsConnection header failed) connections
 
 -- What is kept of a machine on which records are played.

@@ -2,7 +2,7 @@
 use Rattle.std.{proofs.{Common.{◌≡◌, ℕ, zero, suc, ◌+◌, ◌≤◌, Bool, true, false, cond, List, [], ◌∷◌, ◌++◌, length, length-append, refl, sym, ◌∙◌, arith, inl, inr, append_assoc, ◌≢◌, ◌⊎◌, ◌↔◌, IsTrue, slice_index, replicate, slice_set, ◌==◌, ◌||◌, if◌then◌else◌, Option, Some, None}, lemmas.{Grind.flat_map-append, Bool.{eq-eqb, ne_eqb, false≢true, Decides.nat_tests}, List.{append-nil, map-append, map-id, length-map, length-replicate, get_or-replicate, get_or_past, get_or-set_other, Elements.{All-append, filter_map-append}, FromFn.{length-range_with_len, map-range_with_len_more}, Sums.sum_by-append}}}, specs.List.{All, cons_option, filter_map, range_with_len}}
 use Rattle.claims.{specs.{declared.view.Account.Account, Views.{after_all, minted_by}, Seats.{SeatState, trace_at, account_at, HoldsNothing, Adds}}, proofs.Seats.after_both}
 use Rattle.ready.specs.declared.ticket.Ticket.{Ticket}
-use Rattle.rounds.specs.{Acts.{SeatAct, exchanges_at, made_by, due_of, ActsMade, IsPost, ArePosts, opening, InOrder, IsTry, AreTries, at_slot, reported, all_reported, ArePosted, is_due, last_in, opened_below, all_opened, sweep_of}, Pollers.{IsOwnTable, PollerState, AreGenerations}, Openings.AreIn}
+use Rattle.rounds.specs.{Acts.{SeatAct, exchanges_at, made_by, due_of, ActsMade, IsPost, ArePosts, opening, InOrder, IsTry, AreTries, at_slot, connection_reported, all_reported, ArePosted, is_due, last_in, opened_below, all_opened, sweep_of}, Pollers.{IsOwnTable, PollerState, AreGenerations}, Openings.AreIn}
 use Rattle.relay_core.specs.Idle.{is_past}
 use Rattle.common.specs.{Hands.{HandState, ticket_room}, Posts.IsWorn}
 use Rattle.sizes.specs.{declared.split.Part.Part, Splits.IsIn}
@@ -199,7 +199,7 @@ filter_own part f (x ∷ xs) own slot out = by_first (filter_own part f xs own s
   by_first rest (Some t) is = omega (arith, none_at t slot (λ same. own x t is (λ inside. out (rw same inside))), at_slot-append slot (t ∷ []) (filter_map f xs))
 
 -- a report is for a connection that the table has, and a sweep too
-reported_has : (table : List ℕ) (number : ℕ) (t : Ticket) → reported table number ≡ Some t → 1 ≤ slice_index table t.slot
+reported_has : (table : List ℕ) (number : ℕ) (t : Ticket) → connection_reported table number ≡ Some t → 1 ≤ slice_index table t.slot
 reported_has table number t is = grind arith
 
 last_has : (table : List ℕ) (slot : ℕ) (t : Ticket) → last_in table slot ≡ Some t → 1 ≤ slice_index table t.slot
@@ -207,7 +207,7 @@ last_has table slot t is = grind arith
 
 -- the table has connections in its poller's own slots alone
 pub own_reports : (part : Part) (table batch : List ℕ) → IsOwnTable part table → AreIn part (all_reported table batch)
-own_reports part table batch own = filter_own part (reported table) batch (λ number t is out. omega (arith, own t.slot out, reported_has table number t is))
+own_reports part table batch own = filter_own part (connection_reported table) batch (λ number t is out. omega (arith, own t.slot out, reported_has table number t is))
 
 own_below : (part : Part) (table : List ℕ) (slots : ℕ) → IsOwnTable part table → AreIn part (opened_below table slots)
 own_below part table slots own = filter_own part (last_in table) (range_with_len 0 slots) (λ slot t is out. omega (arith, own t.slot out, last_has table slot t is))
@@ -243,11 +243,11 @@ swept_by limit p r true due is = rw (is, ne_eqb p.second p.swept (past_later p.s
 swept_by limit p r false due is = rw (is, eq-eqb p.swept p.swept refl)
 
 -- the flag that the listener's report raises is down
-pub flag_down : {reported : Type 0} (told flag : Bool) → IsTrue told ↔ reported → (flag || told) ≡ false → (flag ≡ false) × (reported → ⊥)
+pub flag_down : {connection_reported : Type 0} (told flag : Bool) → IsTrue told ↔ connection_reported → (flag || told) ≡ false → (flag ≡ false) × (connection_reported → ⊥)
 flag_down told true is down = absurd (false≢true (sym down))
 flag_down told false is down = (refl, λ has. false≢true (sym down ∙ is.1 has))
 
 -- it is up
-pub flag_raised : {reported : Type 0} (told flag : Bool) → IsTrue told ↔ reported → (flag || told) ≡ true → (flag ≡ true) ⊎ reported
+pub flag_raised : {connection_reported : Type 0} (told flag : Bool) → IsTrue told ↔ connection_reported → (flag || told) ≡ true → (flag ≡ true) ⊎ connection_reported
 flag_raised told true is up = inl refl
 flag_raised told false is up = inr (is.0 up)

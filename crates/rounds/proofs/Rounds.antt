@@ -6,7 +6,7 @@ use Rattle.common.{specs.{Posts.{HoldsOnly, IsWorn, OnlyWorn}, declared.{places.
 use Rattle.sizes.specs.{declared.split.Part.Part, Splits.IsIn}
 use Rattle.ready.specs.declared.ticket.Ticket.{Ticket}
 use Rattle.relay_core.specs.Pairs.{PairState}
-use Rattle.rounds.{specs.{declared.episodes.Episodes.Episodes, Acts.{SeatAct, opening, ActsMade, AreTries, InOrder, all_reported, ArePosted, sweep_of}, Openings.{times, with_slot, AreOpened, OnlyTook, SlotsCounted, Between, Started, Connected, AcceptDone, OneAccepted, OnlyAccepted, unmarked, IsOpened, IsSpent, AreLost, IsNext, SameQueues, Fate, LeadGiven, Registered, next_in, Opened, Dropped, Spent, NotFree, DropsFor, ActsOf, DropMade, TriedOnce, TriesMade, TriesNext, TryMade, lacks, lead_of}, Pollers.{PollerState, Counted, counted_up, HasOpenedAll}, Episodes.{flag_after, starved_after}, Rounds.{AcceptEnded, AllPosted, RoundInOrder, ListenerKept, ListensNoMore, ListensToOpen, Looked, OnlyAnswered, OnlyListens, RoundRefused, MayNotWait, WaitedAsMay, WaitsAsMay}}, proofs.Acts.{at_slot-append, acts_none, acts_one, acts_both, in_order, none_at, try_dropped, try_opened, tries_none, tries_both, holds_nothing_still, posted_none, posts_still, no_sweep}}
+use Rattle.rounds.{specs.{declared.episodes.Episodes.Episodes, Acts.{SeatAct, opening, ActsMade, AreTries, InOrder, all_reported, ArePosted, sweep_of}, Openings.{times, with_slot, AreOpened, OnlyTook, SlotsCounted, Between, Started, Connected, AcceptDone, OneAccepted, OnlyAccepted, unmarked, IsOpened, IsSpent, AreLost, IsNext, SameQueues, Fate, LeadGiven, RegisteredFirst, next_in, Opened, Dropped, Spent, NotFree, DropsFor, ActsOf, DropMade, TriedOnce, TriesMade, TriesNext, TryMade, lacks, lead_of}, Pollers.{PollerState, HasRisen, counted_up, HasOpenedAll}, Episodes.{flag_after, starved_after}, Rounds.{AcceptEnded, AllPosted, RoundInOrder, ListenerKept, ListensNoMore, ListensToOpen, Looked, OnlyAnswered, OnlyListens, RoundRefused, MayNotWait, WaitedAsMay, WaitsAsMay}}, proofs.Acts.{at_slot-append, acts_none, acts_one, acts_both, in_order, none_at, try_dropped, try_opened, tries_none, tries_both, holds_nothing_still, posted_none, posts_still, no_sweep}}
 use Rattle.sizes.specs.declared.{cause.Cause.{Cause}, faults.ServerFault.{ServerFault, TheVariants.{Poll, Worn}}}
 use Rattle.claims.specs.declared.view.Exchange.TheVariants as exchange
 use Rattle.claims.specs.declared.answers.Posted.TheVariants as posted
@@ -15,7 +15,7 @@ use Rattle.common.specs.declared.front.Unopened.TheVariants as unopened
 
 -- counts
 
-pub counted_same : {old new : ℕ} → new ≡ old → Counted old 0 new
+pub counted_same : {old new : ℕ} → new ≡ old → HasRisen old 0 new
 counted_same same = inl (omega arith)
 
 pub counted_one : (most old new : ℕ) → new ≡ min (old + 1) most → (new ≡ old + 1) ⊎ ((most ≤ old + 1) × (most ≤ new))
@@ -99,7 +99,7 @@ SamePoller p q = record { table : q.table ≡ p.table; heavy : q.heavy ≡ p.hea
 
 -- nothing was opened by these tries
 pub none_opened : {p q : PollerState} {a b : Own} (tries : List SeatAct) (lost not_free : List ℕ) → AreTries [] not_free tries → ActsMade tries a.seat b.seat
-    → InOrder (TriesNext p.part) tries p.table p.table → q.table ≡ p.table → q.heavy ≡ p.heavy → q.opened ≡ p.opened → Counted p.lost (length lost) q.lost
+    → InOrder (TriesNext p.part) tries p.table p.table → q.table ≡ p.table → q.heavy ≡ p.heavy → q.opened ≡ p.opened → HasRisen p.lost (length lost) q.lost
     → AreLost q not_free lost → OnlyAccepted p q → b.hand.tickets ≡ a.hand.tickets → b.ready ≡ a.ready → b.free.history.put ≡ a.free.history.put
     → length a.free.history.taken ≤ length b.free.history.taken → SlotsCounted a b [] lost → Connected tries p q a b
 none_opened {a = a} tries lost not_free are made next table heavy opened unused why poller tickets ready gave grew slots = record {
@@ -340,7 +340,7 @@ module _ (may_refuse : Unopened → Type 0) (may_tell : Route → Type 0) (proxy
   drops_by (Err why) c drops lead is = rw is drops
 
 -- a connection whose sockets may be registered is dropped
-pub registered_drop : {S T E : Type 0} (made : Ticket → Made S) {t : Ticket} (reached : Result T E) {from to : S} → Registered made t reached from to → DropMade made t from to
+pub registered_drop : {S T E : Type 0} (made : Ticket → Made S) {t : Ticket} (reached : Result T E) {from to : S} → RegisteredFirst made t reached from to → DropMade made t from to
 registered_drop made (Ok target) acts = inr (_, acts, refl)
 registered_drop made (Err why) acts = acts
 

@@ -77,12 +77,12 @@ connection generations (Some (End end)) =
 connection generations name = None
 
 -- the connection that a report is for, by its number
-abbrev pub reported : List ℕ → ℕ → Option Ticket
-reported generations number = connection generations (name_of number)
+abbrev pub connection_reported : List ℕ → ℕ → Option Ticket
+connection_reported generations number = connection generations (name_of number)
 
 -- the connections that the reports of a batch are for, in order
 abbrev pub all_reported : List ℕ → List ℕ → List Ticket
-all_reported generations batch = filter_map (reported generations) batch
+all_reported generations batch = filter_map (connection_reported generations) batch
 
 -- how many of these tickets are for this slot
 abbrev pub at_slot : ℕ → List Ticket → ℕ

@@ -53,16 +53,16 @@ abbrev pub owed : Cause → ℕ → Option Owed
 owed cause more = if nat_lt 0 more then Some (record { cause = cause; more = more }) else None
 
 -- the text of a line
-abbrev pub line_of : Owed → List ℕ
-line_of o = if nat_lt 0 o.more then drops_message o.cause o.more else drop_message o.cause
+abbrev pub owed_line : Owed → List ℕ
+owed_line o = if nat_lt 0 o.more then drops_message o.cause o.more else drop_message o.cause
 
 -- how many drops must be logged at this second: all that are counted, unless it has had a line of that cause
-abbrev pub due_at : ℕ → Tally → ℕ
-due_at second t = if t.line == second then 0 else t.more
+abbrev pub drops_owed : ℕ → Tally → ℕ
+drops_owed second t = if t.line == second then 0 else t.more
 
 -- the tally once these are logged
 abbrev pub logged_at : ℕ → Tally → Tally
-logged_at second t = if nat_lt 0 (due_at second t) then record t { line = second; more = 0 } else t
+logged_at second t = if nat_lt 0 (drops_owed second t) then record t { line = second; more = 0 } else t
 
 abbrev pub tally_of : Cause → Drops → Tally
 tally_of cause.Memory d = d.memory
@@ -94,10 +94,10 @@ all_logged_at second d = record {
 
 -- no drop must be logged at this second
 pub record AreLogged (second : ℕ) (d : Drops) : Type 0 where
-  pub memory : due_at second d.memory ≡ 0
-  pub connect : due_at second d.connect ≡ 0
-  pub register : due_at second d.register ≡ 0
-  pub address : due_at second d.address ≡ 0
+  pub memory : drops_owed second d.memory ≡ 0
+  pub connect : drops_owed second d.connect ≡ 0
+  pub register : drops_owed second d.register ≡ 0
+  pub address : drops_owed second d.address ≡ 0
 
 -- nothing was logged that still lasts
 abbrev pub no_episodes : Episodes

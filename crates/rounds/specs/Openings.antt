@@ -5,7 +5,7 @@ use Rattle.ready.specs.declared.ticket.Ticket.{Ticket}
 use Rattle.common.specs.{declared.{shared.Own.Own, places.Berth.Berth, front.{Unopened.Unopened, Route.Route}}, Hands.ticket_room, Told.Seen}
 use Rattle.sizes.specs.{declared.split.Part.Part, Splits.IsIn}
 use Rattle.token.specs.Names.{EndName, last_generation}
-use Rattle.rounds.specs.{Pollers.{PollerState, Counted, counted_up}, Acts.{SeatAct, due_of, opening, ActsMade, AreTries, InOrder, at_slot}, Episodes.{dropped_for, no_episodes, opened_after}, declared.opening.Opening.Opening}
+use Rattle.rounds.specs.{Pollers.{PollerState, HasRisen, counted_up}, Acts.{SeatAct, due_of, opening, ActsMade, AreTries, InOrder, at_slot}, Episodes.{dropped_for, no_episodes, opened_after}, declared.opening.Opening.Opening}
 use Rattle.log.specs.declared.level.Level.{Level}
 use Rattle.statistics.specs.declared.event.Event.{Event}
 use Rattle.sizes.specs.declared.cause.Cause.{Cause}
@@ -136,8 +136,8 @@ pub record Connected (tries : List SeatAct) (old new : PollerState) (had has : O
   pub next : InOrder (TriesNext old.part) tries old.table new.table
   pub table : AreOpened old.table opened new.table
   pub heavy : new.heavy ≡ unmarked opened old.heavy
-  pub counted : Counted old.opened (length opened) new.opened
-  pub unused : Counted old.lost (length lost) new.lost
+  pub counted : HasRisen old.opened (length opened) new.opened
+  pub unused : HasRisen old.lost (length lost) new.lost
   pub why : AreLost new not_free lost
   pub poller : OnlyAccepted old new
   pub own : AreIn old.part opened
@@ -227,9 +227,9 @@ abbrev pub DropMade : {S : Type 0} → (Ticket → act.Made S) → Ticket → S 
 DropMade made ticket from to = (to ≡ from) ⊎ act.AreMade (made ticket) ticket.slot (act.Register ∷ []) from to
 
 -- before a connection is placed, its sockets are registered
-abbrev pub Registered : {S T E : Type 0} → (Ticket → act.Made S) → Ticket → Result T E → S → S → Type 0
-Registered made ticket (Ok opened) from to = made ticket act.Register ticket.slot from to
-Registered made ticket (Err cause) from to = DropMade made ticket from to
+abbrev pub RegisteredFirst : {S T E : Type 0} → (Ticket → act.Made S) → Ticket → Result T E → S → S → Type 0
+RegisteredFirst made ticket (Ok opened) from to = made ticket act.Register ticket.slot from to
+RegisteredFirst made ticket (Err cause) from to = DropMade made ticket from to
 
 -- the acts of a try, and no others, for a client that accept(2) gave
 pub record TryMade {C S : Type 0} (accepted : C → Type 0) (made : C → Ticket → act.Made S) (opens : C → Ticket → S → S → Type 0)

@@ -59,8 +59,8 @@ abbrev pub counted_up : ℕ → ℕ → ℕ
 counted_up count more = min (count + more) 18446744073709551615
 
 -- a count of 64 bits rose by this many, or has reached its greatest value
-abbrev pub Counted : ℕ → ℕ → ℕ → Type 0
-Counted old more new = (new ≡ old + more) ⊎ ((18446744073709551615 ≤ old + more) × (18446744073709551615 ≤ new))
+abbrev pub HasRisen : ℕ → ℕ → ℕ → Type 0
+HasRisen old more new = (new ≡ old + more) ⊎ ((18446744073709551615 ≤ old + more) × (18446744073709551615 ≤ new))
 
 -- how many tickets a hand must have room for, beside one of each slot, before a round begins
 abbrev pub spare_room : ℕ

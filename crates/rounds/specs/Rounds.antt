@@ -4,7 +4,7 @@ use Rattle.std.specs.Prelude.{◌≡◌, ◌≢◌, ◌⊎◌, ℕ, ◌+◌, ◌
 use Rattle.ready.specs.declared.ticket.Ticket.{Ticket}
 use Rattle.common.specs.{declared.{front.{Route.Route, Unaccepted.Unaccepted, Waiting.Waiting}, places.Berth.Berth, shared.Own.Own}, Acts.Made, Hands.ticket_room, Outgoing.tickets_out, Posts.{IsWorn, OnlyWorn}}
 use Rattle.sizes.specs.declared.split.Part.{Part}
-use Rattle.rounds.specs.{Acts.{SeatAct, due_of, ActsMade, ArePosts, AreTries, InOrder, PostsMade, all_reported, ArePosted, is_due, sweep_of, swept_after}, Openings.{AreIn, AreLost, AreOpened, OnlyTook, SameQueues, SlotsCounted, TriesMade, TriesNext, unmarked}, Pollers.{PollerState, HasOpenedAll, Counted, spare_room}, Episodes.AreLogged}
+use Rattle.rounds.specs.{Acts.{SeatAct, due_of, ActsMade, ArePosts, AreTries, InOrder, PostsMade, all_reported, ArePosted, is_due, sweep_of, swept_after}, Openings.{AreIn, AreLost, AreOpened, OnlyTook, SameQueues, SlotsCounted, TriesMade, TriesNext, unmarked}, Pollers.{PollerState, HasOpenedAll, HasRisen, spare_room}, Episodes.AreLogged}
 use Rattle.sizes.specs.declared.faults.ServerFault.{ServerFault}
 use Rattle.common.specs.declared.front.Unaccepted.TheVariants as unaccepted
 use Rattle.common.specs.declared.front.Waiting.TheVariants as waiting
@@ -36,8 +36,8 @@ pub record RoundDone (old new : PollerState) (had has : Own) : Type 0 where
   pub tickets : tickets_out has ≡ tickets_out had ++ (due_of reports ++ (due_of sweep ++ opened))
   pub table : AreOpened old.table opened new.table
   pub heavy : new.heavy ≡ unmarked opened old.heavy
-  pub counted : Counted old.opened (length opened) new.opened
-  pub unused : Counted old.lost (length lost) new.lost
+  pub counted : HasRisen old.opened (length opened) new.opened
+  pub unused : HasRisen old.lost (length lost) new.lost
   pub gave : has.free.history.put ≡ had.free.history.put
   pub slots : SlotsCounted had has opened lost
 
@@ -129,7 +129,7 @@ abbrev pub EndedEarly : ℕ → Own → Type 0
 EndedEarly slots own = ticket_room own.hand < spare_room + slots
 
 -- such a round only empties its batch
-pub record NotBegun (old new : PollerState) (had has : Own) : Type 0 where
+pub record NoRound (old new : PollerState) (had has : Own) : Type 0 where
   pub own : has ≡ had
   pub poller : new ≡ record old { batch = [] }
 

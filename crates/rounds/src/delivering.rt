@@ -2,7 +2,7 @@
 ghost use Rattle.std.specs.{Prelude.{◌≡◌, ◌-◌, ◌<◌, ◌≤◌, ◌↔◌, [], length, IsTrue, IfOk, IfSome, MatchResult, Contains}, List.cons_option};
 ghost use Rattle.claims.specs.Seats.{HoldsNothing};
 ghost use Rattle.common.specs.{Hands.ticket_room, Posts.{IsWorn, OnlyWorn}};
-ghost use Rattle.rounds.specs.Acts.{all_reported, reported, ArePosted, Delivered, PostsMade};
+ghost use Rattle.rounds.specs.Acts.{all_reported, connection_reported, ArePosted, Delivered, PostsMade};
 
 use claims::{ClaimSeat, Claims, Posted};
 use common::{Acts, Hand};
@@ -33,7 +33,7 @@ pub fn deliver<A: Acts>(
     requires room { length batch.now ≤ ticket_room hand.old }
     ensures made { PostsMade A.made (all_reported table.now batch.now) acts.old acts.new }
     ensures delivered { Delivered table.now batch.now seat.old seat.new hand.old hand.new }
-    ensures listener { IfOk result (λ reported. IsTrue reported ↔ Contains batch.now 0) }
+    ensures listener { IfOk result (λ connection_reported. IsTrue connection_reported ↔ Contains batch.now 0) }
     ensures worn { MatchResult result (λ _. IsWorn seat.new → ⊥) (λ fault. OnlyWorn fault seat.new) }
     ensures idle { HoldsNothing seat.new }
 {
@@ -81,7 +81,7 @@ pub(crate) fn post_note<A: Acts>(
 
 /// The connection that a report is for. None if its slot no longer has it, or the report is for no connection.
 fn connection(table: &[u64], number: u64) -> Option<Ticket>
-    ensures value { result ≡ reported table.now number }
+    ensures value { result ≡ connection_reported table.now number }
     ensures inside { IfSome result (λ ticket. ticket.slot < length table.now) }
 {
     let Name::End(end) = unpack(number)? else {

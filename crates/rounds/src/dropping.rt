@@ -1,6 +1,6 @@
 //! An accepted connection that is closed unopened.
 ghost use Rattle.std.specs.Prelude.{◌≡◌, ◌<◌, Some};
-ghost use Rattle.rounds.specs.Episodes.{dropped_for, line_of};
+ghost use Rattle.rounds.specs.Episodes.{dropped_for, owed_line};
 ghost use Rattle.log.specs.declared.level.Level.TheVariants as level;
 
 use crate::episodes::Drops;
@@ -24,7 +24,7 @@ impl Owed {
     }
 
     pub(crate) fn log<L: Logs>(self, rt: &L)
-        ensures { L.logged rt.now level.Warn (Some (line_of self)) }
+        ensures { L.logged rt.now level.Warn (Some (owed_line self)) }
     {
         let Owed { cause, more } = self;
         if more == 0 {

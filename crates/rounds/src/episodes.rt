@@ -1,6 +1,6 @@
 //! What a poller keeps and logs of accepting connections.
 ghost use Rattle.std.specs.Prelude.{◌≡◌, IfSome, Some};
-ghost use Rattle.rounds.specs.Episodes.{all_logged_at, dropped_at, dropped_for, due_at, follows, is_counted, line_of, no_drops, no_episodes, no_tally, owed, owed_for, tally_of, logged_at, with_tally, AreLogged};
+ghost use Rattle.rounds.specs.Episodes.{all_logged_at, dropped_at, dropped_for, drops_owed, follows, is_counted, owed_line, no_drops, no_episodes, no_tally, owed, owed_for, tally_of, logged_at, with_tally, AreLogged};
 ghost use Rattle.log.specs.declared.level.Level.TheVariants as level;
 
 use crate::dropping::Owed;
@@ -77,8 +77,8 @@ impl Tally {
     /// Clears the count and returns its line. None if no drop is counted, or this second has had a line.
     fn counted_line(&mut self, cause: Cause, second: u64) -> Option<Owed>
         ensures tally { self.new ≡ logged_at second self.old }
-        ensures owed { result ≡ owed cause (due_at second self.old) }
-        ensures logged { due_at second self.new ≡ 0 }
+        ensures owed { result ≡ owed cause (drops_owed second self.old) }
+        ensures logged { drops_owed second self.new ≡ 0 }
     {
         if self.line == second || self.more == 0 {
             return None;
@@ -159,8 +159,8 @@ impl Drops {
 
     fn tell_of(&mut self, cause: Cause, second: u64) -> Option<Owed>
         ensures drops { self.new ≡ with_tally cause (logged_at second (tally_of cause self.old)) self.old }
-        ensures owed { result ≡ owed cause (due_at second (tally_of cause self.old)) }
-        ensures logged { due_at second (tally_of cause self.new) ≡ 0 }
+        ensures owed { result ≡ owed cause (drops_owed second (tally_of cause self.old)) }
+        ensures logged { drops_owed second (tally_of cause self.new) ≡ 0 }
     {
         match cause {
             Cause::Memory => self.memory.counted_line(cause, second),
@@ -194,7 +194,7 @@ impl Drops {
 }
 
 fn log_owed<L: Logs>(rt: &L, owed: Option<Owed>)
-    ensures { IfSome owed (λ line. L.logged rt.now level.Warn (Some (line_of line))) }
+    ensures { IfSome owed (λ line. L.logged rt.now level.Warn (Some (owed_line line))) }
 {
     if let Some(owed) = owed {
         owed.log(rt);

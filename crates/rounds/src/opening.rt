@@ -2,7 +2,7 @@
 ghost use Rattle.std.specs.Prelude.{◌≡◌, ◌+◌, ◌<◌, ◌≤◌, [], ◌∷◌, ◌++◌, drop, length, Ok, Err, Some, None, ◌⊎◌, IfOk, IfErr, MatchResult, OnOk, OnErr, OnSome, IfSome, IsNone, ℕ, slice_get, slice_index};
 ghost use Rattle.claims.specs.Seats.{Adds, HoldsNothing, OnlyAt};
 ghost use Rattle.relay_core.specs.{Pairs.fresh, Proxy.proxy_line};
-ghost use Rattle.rounds.specs.{Openings.{lacks, lead_of, next_in, Between, DropCounted, DropLogged, DropsFor, Fate, IsFresh, IsNext, IsOpened, IsSpent, LeadGiven, Naming, OneAccepted, OpeningLogged, OpensFresh, Putting, Registered, SameQueues, Started, TriedOnce, TriesMade, Wires, of_end, with_slot}, Pollers.{counted_up, AreGenerations}};
+ghost use Rattle.rounds.specs.{Openings.{lacks, lead_of, next_in, Between, DropCounted, DropLogged, DropsFor, Fate, IsFresh, IsNext, IsOpened, IsSpent, LeadGiven, Naming, OneAccepted, OpeningLogged, OpensFresh, Putting, RegisteredFirst, SameQueues, Started, TriedOnce, TriesMade, Wires, of_end, with_slot}, Pollers.{counted_up, AreGenerations}};
 ghost use Rattle.common.specs.{Acts.{AreMade, placing}, Posts.{HoldsOnly, IsWorn}, Hands.ticket_room};
 ghost use Rattle.token.specs.Names.{last_generation};
 ghost use Rattle.common.specs.Acts as act;
@@ -132,7 +132,7 @@ fn prepare<F: Front, A: Moves<F>, N: Log>(
     names: Names,
 ) -> Result<Box<Berth<F::Client, F::Target>>, Dropped>
     requires { length hand.old.slots < hand.old.capacity }
-    ensures acts { Registered (Naming A.named (Wires (A.registered client)) A.made) (of_end names.client) result acts.old acts.new }
+    ensures acts { RegisteredFirst (Naming A.named (Wires (A.registered client)) A.made) (of_end names.client) result acts.old acts.new }
     ensures wires { IfOk result (λ berth. A.registered client berth.value.client berth.value.target acts.new) }
     ensures fresh { IfOk result (λ berth. IsFresh (F.may_tell client) poller.old.opening poller.old.second
         (of_end names.client) berth.value) }
@@ -214,7 +214,8 @@ fn reach<F: Front, A: Moves<F>, N: Log>(
     names: Names,
 ) -> Result<(Pair, F::Target), Cause>
     requires ring { (1 ≤ opening.ring) × (opening.ring ≤ 65536) }
-    ensures acts { Registered (Naming A.named (Wires (A.registered client.old)) A.made) (of_end names.client) result acts.old acts.new }
+    ensures acts { RegisteredFirst (Naming A.named (Wires (A.registered client.old)) A.made) (of_end names.client) result
+        acts.old acts.new }
     ensures wires { IfOk result (λ made. A.registered client.old client.new made.1 acts.new) }
     ensures pair { IfOk result (λ made. made.0 ≡ fresh names.client.slot names.client.generation opening.ring second made.0.up.lead) }
     ensures lead { IfOk result (λ made. LeadGiven (F.may_tell client.old) opening.proxy (Some made.0.up.lead)) }

@@ -1,6 +1,6 @@
 //! A round of the poller.
 ghost use Rattle.std.specs.{Prelude.{◌≡◌, ◌⊎◌, ◌+◌, ◌-◌, ◌<◌, ◌≤◌, ◌↔◌, [], length, Err, IsOk, IfErr, IsSome, IsTrue, MatchResult, OnErr, OnOk, Contains, true, false}, IoError.error_kind, declared.io.ErrorKind.TheVariants.Interrupted};
-ghost use Rattle.rounds.specs.{Acts.{all_reported}, Episodes.{episodes_after, flag_after, starved_after}, Openings.{Between, OnlyTook, AcceptDone, OneAccepted, TriesMade}, Pollers.{HasOpenedAll, max_accepts, spare_room}, Rounds.{AcceptEnded, AllPosted, EndedEarly, IsFull, IsOver, ListensNoMore, ListensToOpen, Looked, LooksForAll, MayAccept, NoSlot, NoneToAccept, NotBegun, OnlyAnswered, OnlyListens, RoundEnded, RoundInOrder, RoundKeeps, RoundRefused, WaitedAsMay, WaitsAsMay}};
+ghost use Rattle.rounds.specs.{Acts.{all_reported}, Episodes.{episodes_after, flag_after, starved_after}, Openings.{Between, OnlyTook, AcceptDone, OneAccepted, TriesMade}, Pollers.{HasOpenedAll, max_accepts, spare_room}, Rounds.{AcceptEnded, AllPosted, EndedEarly, IsFull, IsOver, ListensNoMore, ListensToOpen, Looked, LooksForAll, MayAccept, NoSlot, NoneToAccept, NoRound, OnlyAnswered, OnlyListens, RoundEnded, RoundInOrder, RoundKeeps, RoundRefused, WaitedAsMay, WaitsAsMay}};
 ghost use Rattle.common.specs.{Hands.{HasRoom, ticket_room}, Posts.IsWorn, Told.{unaccepted_of, Waited}};
 
 use crate::delivering::{deliver, refuse_worn};
@@ -57,7 +57,7 @@ pub fn poller_round<F: Front, A: Moves<F>, C: Clock, R: Wait + Log>(
 ) -> Result<(), ServerFault>
     requires between { Between shared.now.claims own.old poller.old }
     ensures between { Between shared.now.claims own.new poller.new }
-    ensures early { EndedEarly shared.now.claims.words own.old → IsOk result × NotBegun poller.old poller.new own.old own.new }
+    ensures early { EndedEarly shared.now.claims.words own.old → IsOk result × NoRound poller.old poller.new own.old own.new }
     ensures waits { EndedEarly shared.now.claims.words own.old ⊎ WaitedAsMay timing.now.limit poller.old poller.new own.old own.new }
     ensures made { RoundInOrder A.moved A.named A.registered A.made F.accepted F.may_tell poller.old poller.new
         own.old own.new acts.old acts.new }

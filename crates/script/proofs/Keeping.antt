@@ -2,8 +2,8 @@
 use Rattle.std.{proofs.{Common.{◌≡◌, ℕ, List, [], ◌∷◌, ◌++◌, Bool, true, false, not, ◌||◌, cond, Option, Some, None, Ok, take, drop, refl, sym, ◌∙◌, ap, arith, append_assoc, append-nil, subst, length, nat_lt, nat_le, ◌≤◌}, lemmas.{Bool.{and_parts, both_ways, not-true, ltb-false, leb-true}, List.{take-append-drop, nil_from_length}}, Math.{Bool.{or-false, or-true, or_assoc}, Seq.drop-nil}}, specs.Prelude.{option_map, IfSome}}
 use Rattle.flow.{specs.Stream.{waiting, front, dropped}, proofs.Front.{waiting-dropped, take-front, waiting_ends}}
 use Rattle.kernel_model.specs.{Ends.is_nonempty}
-use Rattle.script_text.specs.{declared.steps.{Step.{Step, TheVariants.{Arrive, Fin, Room, Read, End, Wrote, Shut}}, NumberedStep.NumberedStep}, Events.word_of}
-use Rattle.script.specs.{declared.transfer.Transfer.Transfer, Faults.{and_then, or_not_allowed, played}, Plans.FlowPlan, Transfers.{opening, stepped, line_stepped, brought, given, is_fin, has_ended, KeepsBytes, KeepsEnd}}
+use Rattle.script_text.specs.{declared.steps.{Step.{Step, TheVariants.{Arrive, Fin, Room, Read, End, Wrote, Shut}}, NumberedStep.NumberedStep}, Events.step_word}
+use Rattle.script.specs.{declared.transfer.Transfer.Transfer, Faults.{and_then, or_not_allowed, played}, Plans.FlowPlan, Transfers.{new_transfer, stepped, line_stepped, step_brings, bytes_given, is_fin, has_ended, FlowKeepsBytes, KeepsEnd}}
 
 -- the bytes are in order, the end and the shutdown come after them, and there is no lead
 abbrev Sound : Transfer → Type 0
@@ -47,7 +47,7 @@ writes t n within z =
     z.0 ∙ ap (λ (xs : List ℕ). t.destination.taken ++ (xs ++ t.source.unread)) (sym (take-append-drop n (waiting t.flow)))
     ∙ simp (take-front t.flow n within, waiting-dropped t.flow n, append_assoc)
 
-goes : (t : Transfer) (s : Step) → Sound t → IfSome (stepped t s) (Goes t (brought s) (is_fin s))
+goes : (t : Transfer) (s : Step) → Sound t → IfSome (stepped t s) (Goes t (step_brings s) (is_fin s))
 goes t (Arrive bytes) z = allowed (Goes t bytes false) _ _ _ (λ y.
     let open_ = not-true t.source.fin (and_parts (not t.source.fin) (not t.source.err) (and_parts (is_nonempty bytes) _ y).1).0 in
     ((simp (z.0, append_assoc), λ seen. absurd (both_ways t.source.fin open_ (z.1 seen).0), z.2, z.3), (refl, sym (or-false t.source.fin))))
@@ -87,28 +87,28 @@ joined t u v xs ys a b first rest = (
 )
 
 -- a step, and then the rest, for which it is known
-step_on : (t : Transfer) (s : NumberedStep) (ss : List NumberedStep) (v : Transfer) (o : Option Transfer) → IfSome o (Goes t (brought s.step) (is_fin s.step))
-    → and_then (λ (u : Transfer). played line_stepped u ss) (or_not_allowed s.line (word_of s.step) o) ≡ Ok v
-    → ((u : Transfer) → Sound u → played line_stepped u ss ≡ Ok v → Goes u (given ss) (has_ended ss) v) → Goes t (given (s ∷ ss)) (has_ended (s ∷ ss)) v
-step_on t s ss v (Some u) g is rest = let all = rest u g.0 is in (all.0, joined t u v _ (given ss) _ (has_ended ss) g.1 all.1)
+step_on : (t : Transfer) (s : NumberedStep) (ss : List NumberedStep) (v : Transfer) (o : Option Transfer) → IfSome o (Goes t (step_brings s.step) (is_fin s.step))
+    → and_then (λ (u : Transfer). played line_stepped u ss) (or_not_allowed s.line (step_word s.step) o) ≡ Ok v
+    → ((u : Transfer) → Sound u → played line_stepped u ss ≡ Ok v → Goes u (bytes_given ss) (has_ended ss) v) → Goes t (bytes_given (s ∷ ss)) (has_ended (s ∷ ss)) v
+step_on t s ss v (Some u) g is rest = let all = rest u g.0 is in (all.0, joined t u v _ (bytes_given ss) _ (has_ended ss) g.1 all.1)
 step_on t s ss v None g is rest = absurd (cc)
 
-comes : (t : Transfer) (ss : List NumberedStep) (v : Transfer) → Sound t → played line_stepped t ss ≡ Ok v → Goes t (given ss) (has_ended ss) v
+comes : (t : Transfer) (ss : List NumberedStep) (v : Transfer) → Sound t → played line_stepped t ss ≡ Ok v → Goes t (bytes_given ss) (has_ended ss) v
 comes t [] v z is = let same : t ≡ v = cc in subst (Goes t [] false) same (z, still t)
 comes t (s ∷ ss) v z is = step_on t s ss v (stepped t s.step) (goes t s.step z) is (λ u w js. comes u ss v w js)
 
 -- at the opening nothing has come
-opening_sound : (ring : ℕ) → Sound (opening ring)
+opening_sound : (ring : ℕ) → Sound (new_transfer ring)
 opening_sound ring = (refl, λ seen. absurd (cc), λ closed. absurd (cc), refl)
 
-pub keeps_bytes : (plan : FlowPlan) → KeepsBytes plan
+pub keeps_bytes : (plan : FlowPlan) → FlowKeepsBytes plan
 keeps_bytes plan t is =
-    let (sound, came) = comes (opening plan.ring) plan.steps t (opening_sound plan.ring) is in
+    let (sound, came) = comes (new_transfer plan.ring) plan.steps t (opening_sound plan.ring) is in
     sym came.0 ∙ sound.0 ∙ ap (λ (xs : List ℕ). t.destination.taken ++ ((xs ++ t.flow.ring) ++ t.source.unread)) sound.3
 
 pub keeps_end : (plan : FlowPlan) → KeepsEnd plan
 keeps_end plan t is closed =
-    let (sound, came) = comes (opening plan.ring) plan.steps t (opening_sound plan.ring) is in
+    let (sound, came) = comes (new_transfer plan.ring) plan.steps t (opening_sound plan.ring) is in
     let left = sound.2 closed in
     let seen = sound.1 left.0 in
     let none : waiting t.flow ++ t.source.unread ≡ [] = ap (λ (xs : List ℕ). xs ++ t.source.unread) left.1 ∙ seen.1 in

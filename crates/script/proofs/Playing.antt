@@ -1,6 +1,6 @@
 -- Lines that are played one after the other.
 use Rattle.std.{proofs.{Common.{◌≡◌, ℕ, Bool, ◌+◌, List, [], ◌∷◌, ◌++◌, take, drop, Some, Result, Ok, Err, refl, sym, ap, ◌∙◌, subst, add-one, drop-cons}, lemmas.{List.{take-append-drop, take_more}, Option.{slice_get_within, get_or_from_slice_get}}}, specs.Prelude.slice_get}
-use Rattle.script.specs.{declared.fault.Fault.{Fault, TheVariants.NoMemory}, Faults.{Gives, Refused, StopsAt, and_then, played}}
+use Rattle.script.specs.{declared.fault.Fault.{Fault, TheVariants.NoMemory}, Faults.{GivesDefined, Refused, StopsAt, and_then, played}}
 
 -- a line parts all of them
 parted : {L : Type 0} (ls : List L) (i : ℕ) (l : L) → slice_get ls i ≡ Some l → ls ≡ take i ls ++ l ∷ drop (i + 1) ls
@@ -30,16 +30,16 @@ module _ {X L : Type 0} (stepped : X → L → Result X Fault) where
       rw (take_more ls i l within, get_or_from_slice_get ls i l l there, played_append x (take i ls) (l ∷ []), came) (one_step (stepped y l))
 
   -- a line that is refused is where all lines end
-  refused_ends : (takes : Bool) (fault : Fault) (ls : List L) (r : Result X Fault) → Refused takes r fault → Gives (and_then (λ (x : X). played stepped x ls) r) (Err fault)
+  refused_ends : (takes : Bool) (fault : Fault) (ls : List L) (r : Result X Fault) → Refused takes r fault → GivesDefined (and_then (λ (x : X). played stepped x ls) r) (Err fault)
   refused_ends takes fault ls (Ok x) is = rw is.0 tt
   refused_ends takes fault ls (Err NoMemory) is = rw is tt
   refused_ends takes fault ls _ is = rw is refl
 
   -- where lines stop is the fault of all of them
-  pub plays_give : (takes : X → L → Bool) (x start y : X) (ls : List L) (fault : Fault) → x ≡ start → StopsAt stepped takes x ls fault y → Gives (played stepped start ls) (Err fault)
+  pub plays_give : (takes : X → L → Bool) (x start y : X) (ls : List L) (fault : Fault) → x ≡ start → StopsAt stepped takes x ls fault y → GivesDefined (played stepped start ls) (Err fault)
   plays_give takes x start y ls fault same stop =
       let rest = drop (stop.index + 1) ls in
       let all : played stepped start ls ≡ and_then (λ (z : X). played stepped z rest) (stepped y stop.line) =
       ap (λ z. played stepped z ls) (sym same) ∙ ap (played stepped x) (parted ls stop.index stop.line stop.there)
       ∙ played_append x (take stop.index ls) (stop.line ∷ rest) ∙ ap (and_then (λ (z : X). played stepped z (stop.line ∷ rest))) stop.before in
-      subst (λ (r : Result X Fault). Gives r (Err fault)) (sym all) (refused_ends (takes y stop.line) fault rest (stepped y stop.line) stop.refused)
+      subst (λ (r : Result X Fault). GivesDefined r (Err fault)) (sym all) (refused_ends (takes y stop.line) fault rest (stepped y stop.line) stop.refused)

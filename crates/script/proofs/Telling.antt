@@ -3,7 +3,7 @@ use Rattle.std.{proofs.{Common.{◌≡◌, ℕ, List, [], ◌∷◌, Option, Som
 use Rattle.world.specs.{States.{State, opening}, Steps.step, Runs.run}
 use Rattle.script_text.specs.declared.steps.NumberedEvent.{NumberedEvent}
 use Rattle.world_text.specs.Words.{event_word}
-use Rattle.script.{specs.{Faults.{and_then, or_not_allowed, played, Gives}, Plans.events_in, Runs.{line_happened, EveryRunIsSound, EveryRun, reached_by, fault_line, LeadsTo, WritesReport, AnswersFault, WritesFault, EveryByte, EveryEnd}, declared.{fault.Fault.{Fault, TheVariants.{TooLong, NoMemory}}, script.{Script.Script, Reached.Reached}}, Scripts.{Plan, TakesMemory, parsed, said_by}}, proofs.Keeping.{keeps_bytes, keeps_end}}
+use Rattle.script.{specs.{Faults.{and_then, or_not_allowed, played, GivesDefined}, Plans.events_in, Runs.{line_happened, EveryRunIsSound, EveryRun, reached_by, error_line, LeadsTo, WritesReport, AnswersFault, WritesFault, EveryByte, EveryEnd}, declared.{fault.Fault.{Fault, TheVariants.{TooLong, NoMemory}}, script.{Script.Script, Reached.Reached}}, Scripts.{Plan, TakesMemory, parsed, said_by}}, proofs.Keeping.{keeps_bytes, keeps_end}}
 use Rattle.input.specs.{declared.simulate.{Outcome.{Outcome, TheVariants.{Report, Refused}}, ScriptFault.ScriptFault}, Texts.{TakesSome, most_of_script}}
 
 -- The headline of every run, for the events of a script.
@@ -30,7 +30,7 @@ long_is_none text p long is =
     absurd (cc)
 
 -- a text that is a script, and what that leads to
-pub by_script : (text : List ℕ) (script : Script) (r : Result Reached Fault) → parsed text ≡ Ok (said_by script) → Gives (reached_by script) r → LeadsTo text r
+pub by_script : (text : List ℕ) (script : Script) (r : Result Reached Fault) → parsed text ≡ Ok (said_by script) → GivesDefined (reached_by script) r → LeadsTo text r
 by_script text script (Ok reached) is to = (script, (is, to))
 by_script text script (Err NoMemory) is to = inl (script, is)
 by_script text script _ is to = inr (script, (is, to))
@@ -86,7 +86,7 @@ some_taken (Some input) None (bytes, (consumed, some)) = absurd consumed
 some_taken (Some input) (Some rest) (bytes, (consumed, some)) =
     λ none. omega (arith, some, ap (λ (t : List ℕ). length t) (sym none ∙ consumed), length-append bytes rest)
 
-pub ran_out : (a b old new : Option (List ℕ)) → TakesSome a b → Appends old new (fault_line NoMemory) → IfSome a (λ input. WritesFault input old new)
+pub ran_out : (a b old new : Option (List ℕ)) → TakesSome a b → Appends old new (error_line NoMemory) → IfSome a (λ input. WritesFault input old new)
 ran_out None b old new some wrote = tt
 ran_out (Some input) b old new some wrote = inr (some_taken (Some input) b some, wrote)
 

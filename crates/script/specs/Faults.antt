@@ -3,12 +3,12 @@ use Rattle.std.specs.{Prelude.{◌≡◌, ℕ, Bool, IsTrue, List, [], ◌∷◌
 use Rattle.world_text.specs.{declared.word.Word.Word, Words.word_text}
 use Rattle.script.specs.declared.fault.Fault.{Fault, TheVariants.{TooLong, NoWorld, Malformed, NotAllowed, NoMemory}}
 
-abbrev pub fault_text : Fault → List ℕ
-fault_text TooLong = codes "script too long"
-fault_text NoWorld = codes "no world"
-fault_text (Malformed line) = codes "line " ++ (decimal line ++ codes ": malformed")
-fault_text (NotAllowed line word) = codes "line " ++ (decimal line ++ (codes ": not allowed: " ++ word_text word))
-fault_text NoMemory = codes "out of memory"
+abbrev pub script_fault_text : Fault → List ℕ
+script_fault_text TooLong = codes "script too long"
+script_fault_text NoWorld = codes "no world"
+script_fault_text (Malformed line) = codes "line " ++ (decimal line ++ codes ": malformed")
+script_fault_text (NotAllowed line word) = codes "line " ++ (decimal line ++ (codes ": not allowed: " ++ word_text word))
+script_fault_text NoMemory = codes "out of memory"
 
 -- A call returned what is defined, a value as `view` sees it or a fault; or memory ran out.
 abbrev pub GivesBy : {X Y : Type 0} → (X → Y) → Result Y Fault → Result X Fault → Type 0
@@ -19,8 +19,8 @@ GivesBy view defined (Err (Malformed line)) = defined ≡ Err (Malformed line)
 GivesBy view defined (Err (NotAllowed line word)) = defined ≡ Err (NotAllowed line word)
 GivesBy view defined (Err NoMemory) = Unit {0}
 
-abbrev pub Gives : {X : Type 0} → Result X Fault → Result X Fault → Type 0
-Gives defined result = GivesBy (λ x. x) defined result
+abbrev pub GivesDefined : {X : Type 0} → Result X Fault → Result X Fault → Type 0
+GivesDefined defined result = GivesBy (λ x. x) defined result
 
 -- f of the value; a fault stays
 abbrev pub and_then : {X Y : Type 0} → (X → Result Y Fault) → Result X Fault → Result Y Fault
@@ -59,6 +59,6 @@ pub record StopsAt {X L : Type 0} (stepped : X → L → Result X Fault) (takes 
 
 -- All steps were made, or those before the first that is refused. So a line that is not allowed is never reported as
 -- out of memory.
-abbrev pub Plays : {X L : Type 0} → (X → L → Result X Fault) → (X → L → Bool) → X → List L → Result (Unit {0}) Fault → X → Type 0
-Plays stepped takes old ls (Ok x) new = played stepped old ls ≡ Ok new
-Plays stepped takes old ls (Err fault) new = StopsAt stepped takes old ls fault new
+abbrev pub PlaysSteps : {X L : Type 0} → (X → L → Result X Fault) → (X → L → Bool) → X → List L → Result (Unit {0}) Fault → X → Type 0
+PlaysSteps stepped takes old ls (Ok x) new = played stepped old ls ≡ Ok new
+PlaysSteps stepped takes old ls (Err fault) new = StopsAt stepped takes old ls fault new

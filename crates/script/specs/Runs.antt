@@ -1,7 +1,7 @@
 -- What a run writes, given what its reader had.
 use Rattle.std.specs.{Prelude.{Bool, Result, Ok, ℕ, List, ◌++◌, codes, ◌≡◌, ◌≢◌, ◌⊎◌, [], Option, Some, Err}, Io.KnownBytes.Appends}
 use Rattle.world.specs.{States.{State, opening}, Steps.step, Memory.may_allocate, declared.{limits.Limits.Limits, event.Event.Event}, Runs.run, Headline.HeadlineHolds, Support.SupportHolds}
-use Rattle.script.specs.{declared.{fault.Fault.{Fault, TheVariants.NoMemory}, script.{Script.Script, Reached.Reached}, transfer.Transfer.Transfer}, Plans.{WorldPlan, FlowPlan, events_in}, Scripts.{FlowOf, TakesMemory, parsed, said_by}, Transfers.{run_of, KeepsBytes, KeepsEnd}, Faults.{and_then, or_not_allowed, played, fault_text}}
+use Rattle.script.specs.{declared.{fault.Fault.{Fault, TheVariants.NoMemory}, script.{Script.Script, Reached.Reached}, transfer.Transfer.Transfer}, Plans.{WorldPlan, FlowPlan, events_in}, Scripts.{FlowOf, TakesMemory, parsed, said_by}, Transfers.{run_of, FlowKeepsBytes, KeepsEnd}, Faults.{and_then, or_not_allowed, played, script_fault_text}}
 use Rattle.script_text.specs.declared.steps.NumberedEvent.{NumberedEvent}
 use Rattle.world_text.specs.{Words.event_word, Pages.{newline, shown_bytes, stream_text}, WorldReports.world_report}
 use Rattle.script.specs.declared.script.Script.TheVariants as script
@@ -23,15 +23,15 @@ reached_by (script.Flow plan) = and_then (λ t. Ok (reached.Flow t)) (run_of pla
 reached_by (script.World plan) = and_then (λ st. Ok (reached.World st)) (world_of plan)
 
 -- the report of one direction: sent is what the destination took, unread what waits at the source
-abbrev pub report : Transfer → List ℕ
-report t = codes "up sent=" ++ (shown_bytes t.destination.taken ++ stream_text t.flow.ring t.source.unread t.flow.end_seen t.flow.shut)
+abbrev pub flow_report : Transfer → List ℕ
+flow_report t = codes "up sent=" ++ (shown_bytes t.destination.taken ++ stream_text t.flow.ring t.source.unread t.flow.end_seen t.flow.shut)
 
-abbrev pub fault_line : Fault → List ℕ
-fault_line fault = fault_text fault ++ newline
+abbrev pub error_line : Fault → List ℕ
+error_line fault = script_fault_text fault ++ newline
 
-abbrev pub report_of : Reached → List ℕ
-report_of (reached.Flow transfer) = report transfer
-report_of (reached.World state) = world_report state
+abbrev pub reached_report : Reached → List ℕ
+reached_report (reached.Flow transfer) = flow_report transfer
+reached_report (reached.World state) = world_report state
 
 -- What a text leads to: the state after the whole script that it stands for, or its first fault. The whole text is
 -- parsed before the first step is made. Memory runs out only for a text that takes some.
@@ -43,19 +43,19 @@ LeadsTo text (Err fault) = (parsed text ≡ Err fault)
 
 -- the report of the state after the whole script, and nothing else
 abbrev pub WritesReport : List ℕ → Option (List ℕ) → Option (List ℕ) → Type 0
-WritesReport text old new = (reached : Reached) × (LeadsTo text (Ok reached) × Appends old new (report_of reached))
+WritesReport text old new = (reached : Reached) × (LeadsTo text (Ok reached) × Appends old new (reached_report reached))
 
 -- the line of the script's first fault, or that memory ran out for it, and nothing else
 abbrev pub AnswersFault : List ℕ → Option (List ℕ) → Option (List ℕ) → Type 0
-AnswersFault text old new = (fault : Fault) × (LeadsTo text (Err fault) × Appends old new (fault_line fault))
+AnswersFault text old new = (fault : Fault) × (LeadsTo text (Err fault) × Appends old new (error_line fault))
 
 -- as `AnswersFault`; or memory ran out before the script, which has at least a byte, was read
 abbrev pub WritesFault : List ℕ → Option (List ℕ) → Option (List ℕ) → Type 0
-WritesFault text old new = AnswersFault text old new ⊎ ((text ≢ []) × Appends old new (fault_line NoMemory))
+WritesFault text old new = AnswersFault text old new ⊎ ((text ≢ []) × Appends old new (error_line NoMemory))
 
 -- the two laws, of the script of one direction that a text stands for
 abbrev pub EveryByte : List ℕ → Type 0
-EveryByte text = (plan : FlowPlan) → parsed text ≡ Ok (FlowOf plan) → KeepsBytes plan
+EveryByte text = (plan : FlowPlan) → parsed text ≡ Ok (FlowOf plan) → FlowKeepsBytes plan
 
 abbrev pub EveryEnd : List ℕ → Type 0
 EveryEnd text = (plan : FlowPlan) → parsed text ≡ Ok (FlowOf plan) → KeepsEnd plan

@@ -65,14 +65,14 @@ starts_with read [] = false
 starts_with read (l ∷ ls) = is_some (read l.text)
 
 -- the first line after a header can be read, by what the header covers
-abbrev pub goes_on : Option Header → List NumberedLine → Bool
-goes_on None lines = false
-goes_on (Some (header.Flow ring)) lines = starts_with step_of lines
-goes_on (Some (header.World limits)) lines = starts_with event_of lines
+abbrev pub reads_on : Option Header → List NumberedLine → Bool
+reads_on None lines = false
+reads_on (Some (header.Flow ring)) lines = starts_with step_of lines
+reads_on (Some (header.World limits)) lines = starts_with event_of lines
 
 abbrev pub begins_well : List NumberedLine → Bool
 begins_well [] = false
-begins_well (l ∷ ls) = goes_on (header_of l.text) ls
+begins_well (l ∷ ls) = reads_on (header_of l.text) ls
 
 -- A text that is not too long, and begins with a good header and a good line after it. Later lines may be malformed:
 -- memory may run out before they are read.

@@ -4,12 +4,12 @@ use Rattle.token.specs.declared.side.Side.TheVariants.{Client, Target}
 use Rattle.flow.specs.Stream.{Stream, empty_stream, free_room, waiting, front, taken_in, dropped, ended, closed}
 use Rattle.kernel_model.specs.{Ends.{opened, is_nonempty, arrival, finish, new_room}, Replies.{after_read, after_write, after_shut}}
 use Rattle.script.specs.{declared.{fault.Fault.Fault, transfer.Transfer.Transfer}, Plans.FlowPlan, Faults.{or_not_allowed, played}}
-use Rattle.script_text.specs.{declared.steps.{Step.{Step, TheVariants.{Arrive, Fin, Room, Read, End, Wrote, Shut}}, NumberedStep.NumberedStep}, Events.word_of}
+use Rattle.script_text.specs.{declared.steps.{Step.{Step, TheVariants.{Arrive, Fin, Room, Read, End, Wrote, Shut}}, NumberedStep.NumberedStep}, Events.step_word}
 use Rattle.kernel_model.specs.declared.reply.Reply.TheVariants as reply
 
 -- nothing has arrived, and there is no lead; the source is connected, and the destination has no room yet
-abbrev pub opening : ℕ → Transfer
-opening ring = record { source = opened Client; flow = empty_stream ring []; destination = opened Target }
+abbrev pub new_transfer : ℕ → Transfer
+new_transfer ring = record { source = opened Client; flow = empty_stream ring []; destination = opened Target }
 
 -- the most bytes that the next read asks for
 abbrev pub read_size : Stream → ℕ
@@ -41,26 +41,26 @@ takes_memory (Arrive bytes) = true
 takes_memory (Wrote n full) = true
 takes_memory _ = false
 
-abbrev pub line_takes_memory : Transfer → NumberedStep → Bool
-line_takes_memory t s = takes_memory s.step
+abbrev pub step_takes_memory : Transfer → NumberedStep → Bool
+step_takes_memory t s = takes_memory s.step
 
 abbrev pub line_stepped : Transfer → NumberedStep → Result Transfer Fault
-line_stepped t s = or_not_allowed s.line (word_of s.step) (stepped t s.step)
+line_stepped t s = or_not_allowed s.line (step_word s.step) (stepped t s.step)
 
 abbrev pub run_of : FlowPlan → Result Transfer Fault
-run_of plan = played line_stepped (opening plan.ring) plan.steps
+run_of plan = played line_stepped (new_transfer plan.ring) plan.steps
 
 -- What holds of every script of one direction, in terms of its steps alone.
 
 -- the bytes that a step brings to the source
-abbrev pub brought : Step → List ℕ
-brought (Arrive bytes) = bytes
-brought _ = []
+abbrev pub step_brings : Step → List ℕ
+step_brings (Arrive bytes) = bytes
+step_brings _ = []
 
 -- every byte that the steps bring, in order
-abbrev pub given : List NumberedStep → List ℕ
-given [] = []
-given (s ∷ ss) = brought s.step ++ given ss
+abbrev pub bytes_given : List NumberedStep → List ℕ
+bytes_given [] = []
+bytes_given (s ∷ ss) = step_brings s.step ++ bytes_given ss
 
 abbrev pub is_fin : Step → Bool
 is_fin Fin = true
@@ -72,15 +72,15 @@ has_ended [] = false
 has_ended (s ∷ ss) = is_fin s.step || has_ended ss
 
 -- The bytes that arrived are the sent bytes, then the ring, then the unread bytes.
-abbrev pub KeepsBytes : FlowPlan → Type 0
-KeepsBytes plan = (t : Transfer) → run_of plan ≡ Ok t → given plan.steps ≡ t.destination.taken ++ (t.flow.ring ++ t.source.unread)
+abbrev pub FlowKeepsBytes : FlowPlan → Type 0
+FlowKeepsBytes plan = (t : Transfer) → run_of plan ≡ Ok t → bytes_given plan.steps ≡ t.destination.taken ++ (t.flow.ring ++ t.source.unread)
 
 -- The source has ended, no byte is on its way, and all that arrived was sent.
 pub record IsComplete (steps : List NumberedStep) (t : Transfer) : Type 0 where
   pub ended : has_ended steps ≡ true
   pub unread : t.source.unread ≡ []
   pub ring : t.flow.ring ≡ []
-  pub sent : t.destination.taken ≡ given steps
+  pub sent : t.destination.taken ≡ bytes_given steps
 
 -- The end is passed on only after every byte.
 abbrev pub KeepsEnd : FlowPlan → Type 0

@@ -20,9 +20,9 @@ pub enum Fault {
 }
 
 impl fmt::Display for Fault {
-    ghost use Rattle.script.specs.Faults.{fault_text};
+    ghost use Rattle.script.specs.Faults.{script_fault_text};
 
-    ghost output = { λ fault. Some (fault_text fault) };
+    ghost output = { λ fault. Some (script_fault_text fault) };
 
     fn fmt<W: fmt::Write>(&self, f: &mut fmt::Formatter<W>) -> fmt::Result {
         match *self {

@@ -1,5 +1,5 @@
 ghost use Rattle.std.specs.Prelude.{◌≡◌, ◌≤◌, IfOk};
-ghost use Rattle.script.specs.{Faults.{Gives, Plays}, Transfers.{opening, line_stepped, line_takes_memory, run_of}};
+ghost use Rattle.script.specs.{Faults.{GivesDefined, PlaysSteps}, Transfers.{new_transfer, line_stepped, step_takes_memory, run_of}};
 
 use crate::{Fault, Transfer};
 use script_text::NumberedStep;
@@ -44,7 +44,7 @@ impl FlowScript {
     /// The state after all steps; or the fault of the first step that is not allowed; or `NoMemory`.
     #[tactic(auto, using(crate::proofs::Playing::plays_give))]
     pub fn carry_out(&self, alloc: Global) -> Result<Transfer, Fault>
-        ensures { Gives (run_of self.now) result }
+        ensures { GivesDefined (run_of self.now) result }
     {
         let mut transfer = self.open(alloc)?;
         match self.play(&mut transfer) {
@@ -55,7 +55,7 @@ impl FlowScript {
 
     /// The state before the first step.
     pub fn open(&self, alloc: Global) -> Result<Transfer, AllocError>
-        ensures { IfOk result (λ transfer. transfer ≡ opening self.now.ring) }
+        ensures { IfOk result (λ transfer. transfer ≡ new_transfer self.now.ring) }
     {
         Transfer::new(alloc, self.ring)
     }
@@ -63,7 +63,7 @@ impl FlowScript {
     /// Makes all steps. If one is refused, returns its fault; the steps before it stay made.
     #[tactic(auto, using(crate::proofs::Playing::played_more, std::proofs::lemmas::Option::gets, std::proofs::lemmas::Grind::common_steps))]
     pub fn play(&self, transfer: &mut Transfer) -> Result<(), Fault>
-        ensures { Plays line_stepped line_takes_memory transfer.old self.now.steps result transfer.new }
+        ensures { PlaysSteps line_stepped step_takes_memory transfer.old self.now.steps result transfer.new }
     {
         for numbered in &self.steps {
             transfer.carry_out(numbered)?;

@@ -1,6 +1,6 @@
 ghost use Rattle.std.specs.Prelude.{◌<◌, IsErrOf, IsTrue, Some};
-ghost use Rattle.script_text.specs.{Headers.IsWithin, Events.{step_of, event_of}};
-ghost use Rattle.script.specs.{Faults.GivesBy, Scripts.{BeginsWell, begins_well, goes_on, headed, parsed, plan_of, steps_of, events_of, said_by, said_lines, starts_with}};
+ghost use Rattle.script_text.specs.{Headers.SizesFit, Events.{step_of, event_of}};
+ghost use Rattle.script.specs.{Faults.GivesBy, Scripts.{BeginsWell, begins_well, reads_on, headed, parsed, plan_of, steps_of, events_of, said_by, said_lines, starts_with}};
 
 use crate::{Fault, FlowScript, Script, WorldScript};
 use input::MAX_SCRIPT;
@@ -36,9 +36,9 @@ fn plan(alloc: Global, mut lines: Lines) -> Result<Script, Fault>
 }
 
 fn headed(alloc: Global, header: Header, lines: Lines) -> Result<Script, Fault>
-    requires { IsWithin header }
+    requires { SizesFit header }
     ensures script { GivesBy said_by (headed header lines.entry) result }
-    ensures memory { IsErrOf result Fault.NoMemory → IsTrue (goes_on (Some header) lines.entry) }
+    ensures memory { IsErrOf result Fault.NoMemory → IsTrue (reads_on (Some header) lines.entry) }
 {
     match header {
         Header::Flow(ring) => match steps(alloc, lines) {

@@ -1,5 +1,5 @@
 ghost use Rattle.std.specs.{Prelude.{◌≡◌, ◌≢◌, ◌+◌, IfErr, IfSome, Ok, Err}, Io.KnownBytes.Appends};
-ghost use Rattle.script.specs.Runs.{fault_line, LeadsTo, WritesReport, AnswersFault, WritesFault, EveryByte, EveryEnd, EveryRun, EveryRunIsSound, report_of};
+ghost use Rattle.script.specs.Runs.{error_line, LeadsTo, WritesReport, AnswersFault, WritesFault, EveryByte, EveryEnd, EveryRun, EveryRunIsSound, reached_report};
 ghost use Rattle.input.specs.Texts.{TakesAtMost, most_of_script};
 
 use crate::causes::add_cause;
@@ -88,7 +88,7 @@ pub(crate) fn answer_unread<W: Write>(
     fault: InputFault,
 ) -> Result<Outcome, ScriptFault>
     ensures memory { result ≡ Ok Outcome.Refused → fault ≡ InputFault.NoMemory }
-    ensures told { result ≡ Ok Outcome.Refused → Appends (W.contents writer.old) (W.contents writer.new) (fault_line Fault.NoMemory) }
+    ensures told { result ≡ Ok Outcome.Refused → Appends (W.contents writer.old) (W.contents writer.new) (error_line Fault.NoMemory) }
     ensures report { result ≢ Ok Outcome.Report }
     ensures unread { result ≡ Err ScriptFault.Read → writer.new ≡ writer.old }
 {
@@ -132,8 +132,8 @@ fn tell_report<W: Write>(
     writer: &mut W,
     reached: &Reached,
 ) -> Result<Outcome, ScriptFault>
-    ensures report { result ≡ Ok Outcome.Report → Appends (W.contents writer.old) (W.contents writer.new) (report_of reached.now) }
-    ensures refused { result ≡ Ok Outcome.Refused → Appends (W.contents writer.old) (W.contents writer.new) (fault_line Fault.NoMemory) }
+    ensures report { result ≡ Ok Outcome.Report → Appends (W.contents writer.old) (W.contents writer.new) (reached_report reached.now) }
+    ensures refused { result ≡ Ok Outcome.Refused → Appends (W.contents writer.old) (W.contents writer.new) (error_line Fault.NoMemory) }
     ensures err { IfErr result (λ fault. fault ≡ ScriptFault.Write) }
 {
     match reached.report(alloc) {
@@ -145,7 +145,7 @@ fn tell_report<W: Write>(
 /// Writes the line of a fault. That takes no memory, so each fault is written as itself.
 pub(crate) fn tell_fault<W: Write>(writer: &mut W, fault: Fault) -> Result<Outcome, ScriptFault>
     ensures report { result ≢ Ok Outcome.Report }
-    ensures refused { result ≡ Ok Outcome.Refused → Appends (W.contents writer.old) (W.contents writer.new) (fault_line fault) }
+    ensures refused { result ≡ Ok Outcome.Refused → Appends (W.contents writer.old) (W.contents writer.new) (error_line fault) }
     ensures err { IfErr result (λ fault. fault ≡ ScriptFault.Write) }
 {
     if write!(writer, "{fault}\n").is_err() || writer.flush().is_err() {

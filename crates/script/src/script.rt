@@ -1,5 +1,5 @@
 ghost use Rattle.std.specs.Prelude.{◌≡◌, string_bytes, IfOk};
-ghost use Rattle.script.specs.{Faults.Gives, Runs.{reached_by, report, report_of}};
+ghost use Rattle.script.specs.{Faults.GivesDefined, Runs.{reached_by, flow_report, reached_report}};
 
 use crate::{Fault, FlowScript, Transfer, WorldScript};
 use std::alloc::{AllocError, Global};
@@ -27,7 +27,7 @@ pub enum Reached {
 impl Script {
     /// The state after the whole script; or the fault of the first line that is not allowed; or `NoMemory`.
     pub fn carry_out(&self, alloc: Global) -> Result<Reached, Fault>
-        ensures { Gives (reached_by self.now) result }
+        ensures { GivesDefined (reached_by self.now) result }
     {
         match self {
             Script::Flow(script) => script.carry_out(alloc).map(Reached::Flow),
@@ -39,7 +39,7 @@ impl Script {
 impl Reached {
     /// The report of the state. Fails only if memory for it ran out.
     pub fn report(&self, alloc: Global) -> Result<String, AllocError>
-        ensures { IfOk result (λ text. string_bytes text ≡ report_of self.now) }
+        ensures { IfOk result (λ text. string_bytes text ≡ reached_report self.now) }
     {
         match self {
             Reached::Flow(transfer) => print_transfer(alloc, transfer),
@@ -51,7 +51,7 @@ impl Reached {
 /// The report of one direction, on one line: `up sent=H ring=H unread=H end=yes|no shut=yes|no`. H are bytes in
 /// lower-case hexadecimal, `-` for none; `sent` is what the destination took. Fails only if memory for it ran out.
 pub fn print_transfer(alloc: Global, transfer: &Transfer) -> Result<String, AllocError>
-    ensures { IfOk result (λ text. string_bytes text ≡ report transfer.now) }
+    ensures { IfOk result (λ text. string_bytes text ≡ flow_report transfer.now) }
 {
     let ring = transfer.flow.to_vec(alloc)?;
     let mut page = Page::new(alloc);

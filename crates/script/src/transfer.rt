@@ -1,6 +1,6 @@
 ghost use Rattle.std.specs.Prelude.{◌≡◌, ◌≤◌, IfOk, IsErrOf, IsTrue};
 ghost use Rattle.kernel_model.specs.Outcome.{Meets, MeetsAlways};
-ghost use Rattle.script.specs.{Faults.Carries, Transfers.{opening, stepped, line_stepped, line_takes_memory, takes_memory, read_size}};
+ghost use Rattle.script.specs.{Faults.Carries, Transfers.{new_transfer, stepped, line_stepped, step_takes_memory, takes_memory, read_size}};
 
 use crate::Fault;
 use flow::Flow;
@@ -26,7 +26,7 @@ impl Transfer {
     pub fn new(alloc: Global, ring: usize) -> Result<Transfer, AllocError>
         requires least { 1 ≤ ring }
         requires most { ring ≤ 65536 }
-        ensures { IfOk result (λ transfer. transfer ≡ opening ring) }
+        ensures { IfOk result (λ transfer. transfer ≡ new_transfer ring) }
     {
         Ok(Transfer {
             source: End::new(alloc, Side::Client),
@@ -64,7 +64,7 @@ impl Transfer {
 
     /// Makes the step of a line, or gives the fault of that line.
     pub(crate) fn carry_out(&mut self, numbered: &NumberedStep) -> Result<(), Fault>
-        ensures { Carries (line_takes_memory self.old numbered.now) (line_stepped self.old numbered.now) self.old result self.new }
+        ensures { Carries (step_takes_memory self.old numbered.now) (line_stepped self.old numbered.now) self.old result self.new }
     {
         match self.step(&numbered.step) {
             Ok(()) => Ok(()),

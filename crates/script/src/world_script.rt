@@ -1,6 +1,6 @@
 ghost use Rattle.std.specs.Prelude.{◌≡◌, IfOk};
 ghost use Rattle.world.specs.States.{IsWithinLimits, opening};
-ghost use Rattle.script.specs.{Faults.{Gives, Carries, Plays}, Runs.{line_happened, line_takes_memory, world_of}};
+ghost use Rattle.script.specs.{Faults.{GivesDefined, Carries, PlaysSteps}, Runs.{line_happened, line_takes_memory, world_of}};
 
 use crate::Fault;
 use kernel_model::Refusal;
@@ -47,7 +47,7 @@ impl WorldScript {
     /// The world after all events; or the fault of the first event that is not allowed; or `NoMemory`.
     #[tactic(auto, using(crate::proofs::Playing::plays_give))]
     pub fn carry_out(&self, alloc: Global) -> Result<World, Fault>
-        ensures { Gives (world_of self.now) result }
+        ensures { GivesDefined (world_of self.now) result }
     {
         let mut world = self.open(alloc)?;
         match self.play(&mut world) {
@@ -66,7 +66,7 @@ impl WorldScript {
     /// Makes all events happen. If one is refused, returns its fault; the events before it stay.
     #[tactic(auto, using(crate::proofs::Playing::played_more, std::proofs::lemmas::Option::gets, std::proofs::lemmas::Grind::common_steps))]
     pub fn play(&self, world: &mut World) -> Result<(), Fault>
-        ensures { Plays line_happened line_takes_memory world.old self.now.events result world.new }
+        ensures { PlaysSteps line_happened line_takes_memory world.old self.now.events result world.new }
     {
         for numbered in &self.events {
             happen(world, numbered)?;

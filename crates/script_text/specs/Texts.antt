@@ -9,8 +9,8 @@ use Rattle.script_text.specs.declared.readers.NotRead.TheVariants as not_read
 abbrev pub lines_of : List ℕ → List (List ℕ)
 lines_of text = pieces_of 10 text
 
-abbrev pub words_of : List ℕ → List (List ℕ)
-words_of line = pieces_of 32 line
+abbrev pub words_between : List ℕ → List (List ℕ)
+words_between line = pieces_of 32 line
 
 -- a line, with its number in the text
 pub record NumberedLine : Type 0 where
@@ -46,12 +46,12 @@ abbrev pub is_hex_text : List ℕ → Bool
 is_hex_text text = nat_lt 0 (length text) && (nat_le (length text) 2048 && list_all is_lower_hex text)
 
 -- the bytes that a text stands for in lower-case hexadecimal, 1 to 1,024 of them
-abbrev pub bytes_of : List ℕ → Option (List ℕ)
-bytes_of text = if is_hex_text text then result_ok (decode_of text) else None
+abbrev pub hex_bytes : List ℕ → Option (List ℕ)
+hex_bytes text = if is_hex_text text then result_ok (decode_of text) else None
 
 -- the bytes after a key, which ends with its =
 abbrev pub bytes_after : List ℕ → List ℕ → Option (List ℕ)
-bytes_after key word = if bytes_eq (take (length key) word) key then bytes_of (drop (length key) word) else None
+bytes_after key word = if bytes_eq (take (length key) word) key then hex_bytes (drop (length key) word) else None
 
 -- How a line is read: word by word, from left to right. Part of the promises down to `full_of`; the rest is what the
 -- calls that read a word or a line say.
@@ -85,21 +85,21 @@ full_of [] = Some false
 full_of (word ∷ words) = if bytes_eq word (codes "full") then if_last true words else None
 
 -- The call read what is defined, or refused since nothing is.
-abbrev pub Reads : {X E : Type 0} → Option X → Result X E → Type 0
-Reads defined (Ok x) = defined ≡ Some x
-Reads defined (Err wrong) = defined ≡ None
+abbrev pub ReadsDefined : {X E : Type 0} → Option X → Result X E → Type 0
+ReadsDefined defined (Ok x) = defined ≡ Some x
+ReadsDefined defined (Err wrong) = defined ≡ None
 
--- `Reads`, for the first of some words; `left` are the words after it.
+-- `ReadsDefined`, for the first of some words; `left` are the words after it.
 abbrev pub Takes : {X E : Type 0} → Option (Found X) → Result X E → List (List ℕ) → Type 0
 Takes defined (Ok x) left = defined ≡ Some (record { value = x; words = left })
 Takes defined (Err wrong) left = defined ≡ None
 
--- `Reads` for a whole line, of which `left` is not read yet, and must be empty.
-abbrev pub Ends : {X E : Type 0} → Option X → Result X E → List (List ℕ) → Type 0
-Ends defined (Ok x) left = defined ≡ if_last x left
-Ends defined (Err wrong) left = defined ≡ None
+-- `ReadsDefined` for a whole line, of which `left` is not read yet, and must be empty.
+abbrev pub ReadsLine : {X E : Type 0} → Option X → Result X E → List (List ℕ) → Type 0
+ReadsLine defined (Ok x) left = defined ≡ if_last x left
+ReadsLine defined (Err wrong) left = defined ≡ None
 
--- `Reads` for a call that needs memory: memory runs out only for what can be read. A value is compared as `view` sees
+-- `ReadsDefined` for a call that needs memory: memory runs out only for what can be read. A value is compared as `view` sees
 -- it.
 abbrev pub ReadsBy : {X Y : Type 0} → (Y → X) → Option X → Result Y NotRead → Type 0
 ReadsBy view defined (Ok x) = defined ≡ Some (view x)

@@ -1,6 +1,6 @@
 // The events in a script of a world.
 ghost use Rattle.std.specs.Prelude.{◌≡◌, ◌∷◌, []};
-ghost use Rattle.script_text.specs.{Events.{said_of, accepting_of, change_event, put_event, act_event, plain_event, arrival, event_of, generation_of, end_of, name_of, names_of, reply_of, reported_of}, Texts.{word_then, if_last, ReadsBy, Ends}};
+ghost use Rattle.script_text.specs.{Events.{said_of, accepting_of, change_event, put_event, act_event, plain_event, arrival_said, event_of, generation_of, end_said, name_queued, names_of, reply_said, reported_of}, Texts.{word_then, if_last, ReadsBy, ReadsLine}};
 ghost use Rattle.token.specs.Kinds.{kind_named};
 
 use crate::readers::{
@@ -35,7 +35,7 @@ pub fn read_event<'a>(alloc: Global, line: &'a [u8]) -> Result<Event, NotRead<'a
 }
 
 fn arrive<'a>(alloc: Global, mut words: Pieces<'a>) -> Result<Event, NotRead<'a>>
-    ensures { ReadsBy said_of (arrival words.entry) result }
+    ensures { ReadsBy said_of (arrival_said words.entry) result }
 {
     let slot = slot(&mut words)?;
     let side = side(&mut words)?;
@@ -44,7 +44,7 @@ fn arrive<'a>(alloc: Global, mut words: Pieces<'a>) -> Result<Event, NotRead<'a>
 }
 
 fn plain_event<'a>(first: Word, words: &mut Pieces<'a>) -> Result<Event, Wrong<'a>>
-    ensures { Ends (plain_event first words.old) result words.new }
+    ensures { ReadsLine (plain_event first words.old) result words.new }
 {
     match first {
         Word::Tick => Ok(Event::Tick(count(words)? as u64)),
@@ -77,7 +77,7 @@ fn plain_event<'a>(first: Word, words: &mut Pieces<'a>) -> Result<Event, Wrong<'
 }
 
 fn accept<'a>(words: &mut Pieces<'a>) -> Result<Event, Wrong<'a>>
-    ensures { Ends (word_then accepting_of (λ answer. if_last (Event.Listen (Listening.Accept answer))) words.old) result words.new }
+    ensures { ReadsLine (word_then accepting_of (λ answer. if_last (Event.Listen (Listening.Accept answer))) words.old) result words.new }
 {
     let wanted = "one of again, blocked, ok and starved is wanted";
     let Some(word) = words.next() else {
@@ -107,7 +107,7 @@ fn accepting_named(word: &[u8]) -> Option<Accepting>
 
 /// Reads the end at which the change happens.
 fn at_end<'a>(change: Change, words: &mut Pieces<'a>) -> Result<Event, Wrong<'a>>
-    ensures { Ends (change_event change words.old) result words.new }
+    ensures { ReadsLine (change_event change words.old) result words.new }
 {
     let slot = slot(words)?;
     let side = side(words)?;
@@ -115,7 +115,7 @@ fn at_end<'a>(change: Change, words: &mut Pieces<'a>) -> Result<Event, Wrong<'a>
 }
 
 fn put<'a>(words: &mut Pieces<'a>) -> Result<Event, Wrong<'a>>
-    ensures { Ends (put_event words.old) result words.new }
+    ensures { ReadsLine (put_event words.old) result words.new }
 {
     let wanted = "poller or the number of a worker, 0 to 15, is wanted";
     let Some(who) = words.next() else {
@@ -132,7 +132,7 @@ fn put<'a>(words: &mut Pieces<'a>) -> Result<Event, Wrong<'a>>
 }
 
 fn work<'a>(act: Act, words: &mut Pieces<'a>) -> Result<Event, Wrong<'a>>
-    ensures { Ends (act_event act words.old) result words.new }
+    ensures { ReadsLine (act_event act words.old) result words.new }
 {
     match worker(words) {
         Ok(worker) => Ok(Event::Work(worker, act)),
@@ -153,7 +153,7 @@ fn generation_said(word: &[u8]) -> Option<u64>
 
 /// The name of an end, by the parts of `SLOT.GEN.SIDE`.
 fn end(mut parts: Pieces) -> Option<Name>
-    ensures { result ≡ end_of parts.entry }
+    ensures { result ≡ end_said parts.entry }
 {
     match (parts.next(), parts.next(), parts.next(), parts.next()) {
         (Some(slot), Some(generation), Some(side), None) => end_named(slot, generation, side),
@@ -162,7 +162,7 @@ fn end(mut parts: Pieces) -> Option<Name>
 }
 
 fn end_named(slot: &[u8], generation: &[u8], side: &[u8]) -> Option<Name>
-    ensures { result ≡ end_of (slot.now ∷ generation.now ∷ side.now ∷ []) }
+    ensures { result ≡ end_said (slot.now ∷ generation.now ∷ side.now ∷ []) }
 {
     let slot = number_below(MAX_SLOTS, slot);
     match (slot, generation_said(generation), Side::named(side)) {
@@ -176,7 +176,7 @@ fn end_named(slot: &[u8], generation: &[u8], side: &[u8]) -> Option<Name>
 
 /// A name as the queue has it: `listener`, `waker` or `SLOT.GEN.SIDE`.
 fn name(word: &[u8]) -> Option<Name>
-    ensures { result ≡ name_of word.now }
+    ensures { result ≡ name_queued word.now }
 {
     if is(word, "listener") {
         Some(Name::Listener)
@@ -213,7 +213,7 @@ fn names<'a>(alloc: Global, mut words: Pieces<'a>) -> Result<Vec<Name>, NotRead<
 
 /// Reads what a report is about that comes without cause or is withdrawn.
 fn reported<'a>(words: &mut Pieces<'a>) -> Result<Reported, Wrong<'a>>
-    ensures { Ends (reported_of words.old) result words.new }
+    ensures { ReadsLine (reported_of words.old) result words.new }
 {
     let wanted = "listener, waker or the number of a slot, 0 to 63, is wanted";
     let Some(who) = words.next() else {
@@ -234,7 +234,7 @@ fn reported<'a>(words: &mut Pieces<'a>) -> Result<Reported, Wrong<'a>>
 
 /// Reads the reply to a call.
 fn reply<'a>(words: &mut Pieces<'a>) -> Result<Reply, Wrong<'a>>
-    ensures { Ends (reply_of words.old) result words.new }
+    ensures { ReadsLine (reply_said words.old) result words.new }
 {
     let wanted = "one of blocked, end, failed, interrupted, joined, read, shut and wrote is wanted";
     let Some(name) = words.next() else {
@@ -262,7 +262,7 @@ fn reply<'a>(words: &mut Pieces<'a>) -> Result<Reply, Wrong<'a>>
 }
 
 fn failed<'a>(words: &mut Pieces<'a>) -> Result<Reply, Wrong<'a>>
-    ensures { Ends (word_then kind_named (λ kind. if_last (Reply.Failed kind)) words.old) result words.new }
+    ensures { ReadsLine (word_then kind_named (λ kind. if_last (Reply.Failed kind)) words.old) result words.new }
 {
     let Some(word) = words.next() else {
         return Err(Wrong::missing(KIND_WANTED));

@@ -2,7 +2,7 @@
 ghost use Rattle.std.specs.Prelude.{◌≡◌, ◌≤◌, ◌<◌, [], unwrap_or, IfSome, IfOk, option_and_then};
 ghost use Rattle.token.specs.Names.{last_generation};
 ghost use Rattle.world.specs.{Leads.for_all, States.IsWithinLimits};
-ghost use Rattle.script_text.specs.{Texts.{first_as, Reads, Takes, bytes_of}, Headers.{size_of, generation_of, ring_of, idle_of, lead_of, short_enough, optional, with_extras, limits_of, header_of, IsRing, IsWithin}};
+ghost use Rattle.script_text.specs.{Texts.{first_as, ReadsDefined, Takes, hex_bytes}, Headers.{size_of, generation_before, ring_of, idle_of, lead_table, short_enough, optional_word, with_extras, limits_of, header_of, IsRing, SizesFit}};
 
 use crate::readers::{
     MAX_BUDGET, MAX_BYTES, MAX_IDLE, MAX_SLOTS, MAX_WORKERS, Wrong, decode, end_or, last, said,
@@ -24,8 +24,8 @@ pub enum Header {
 
 /// The header that a line stands for, or the first word from the left that is wrong.
 pub fn read_header(line: &[u8]) -> Result<Header, Wrong<'_>>
-    ensures value { Reads (header_of line.now) result }
-    ensures range { IfOk result IsWithin }
+    ensures value { ReadsDefined (header_of line.now) result }
+    ensures range { IfOk result SizesFit }
 {
     let wanted = "a script begins with flow or world";
     let mut words = Pieces::new(line, b' ');
@@ -47,7 +47,7 @@ pub fn read_header(line: &[u8]) -> Result<Header, Wrong<'_>>
 
 /// Reads the sizes of a world, `slots=S workers=W ring=R budget=B`, and what may come after them.
 fn limits(mut words: Pieces<'_>) -> Result<Limits, Wrong<'_>>
-    ensures value { Reads (limits_of words.entry) result }
+    ensures value { ReadsDefined (limits_of words.entry) result }
     ensures range { IfOk result IsWithinLimits }
 {
     let slots = size(
@@ -84,7 +84,7 @@ fn limits(mut words: Pieces<'_>) -> Result<Limits, Wrong<'_>>
 /// Reads `gen=G`, `idle=L` and `lead=HEX`, in this order. Each may be left out.
 fn with_extras(sizes: Limits, mut words: Pieces<'_>) -> Result<Limits, Wrong<'_>>
     requires { IsWithinLimits sizes }
-    ensures value { Reads (with_extras sizes words.entry) result }
+    ensures value { ReadsDefined (with_extras sizes words.entry) result }
     ensures range { IfOk result IsWithinLimits }
 {
     let generation = generation(&mut words);
@@ -116,7 +116,7 @@ fn behind(generation: Option<u64>, idle: Option<u64>, has_lead: bool) -> &'stati
 
 /// Takes the next word if it is `gen=G`, and returns G. Otherwise returns None, and the word stays.
 fn generation(words: &mut Pieces<'_>) -> Option<u64>
-    ensures value { optional generation_of 0 words.old ≡ record { value = unwrap_or result 0; words = words.new } }
+    ensures value { optional_word generation_before 0 words.old ≡ record { value = unwrap_or result 0; words = words.new } }
     ensures range { IfSome result (λ generation. generation < last_generation) }
 {
     match value_after(b"gen=", words.peek()?) {
@@ -130,7 +130,7 @@ fn generation(words: &mut Pieces<'_>) -> Option<u64>
 
 /// As `generation`, for `idle=L`, in seconds.
 fn idle(words: &mut Pieces<'_>) -> Option<u64>
-    ensures { optional idle_of 0 words.old ≡ record { value = unwrap_or result 0; words = words.new } }
+    ensures { optional_word idle_of 0 words.old ≡ record { value = unwrap_or result 0; words = words.new } }
 {
     let idle = size_said(b"idle=", MAX_IDLE, words.peek()?)?;
     words.next();
@@ -139,7 +139,7 @@ fn idle(words: &mut Pieces<'_>) -> Option<u64>
 
 /// As `generation`, for `lead=HEX`.
 fn lead(words: &mut Pieces<'_>) -> Option<Lead>
-    ensures { optional lead_of (for_all []) words.old ≡ record { value = unwrap_or result (for_all []); words = words.new } }
+    ensures { optional_word lead_table (for_all []) words.old ≡ record { value = unwrap_or result (for_all []); words = words.new } }
 {
     let lead = short_bytes(words.peek()?.strip_prefix(b"lead=")?)?;
     words.next();
@@ -183,7 +183,7 @@ fn size_said(key: &[u8], most: usize, word: &[u8]) -> Option<usize>
 
 /// The lead whose bytes a text stands for in lower-case hexadecimal.
 fn short_bytes(text: &[u8]) -> Option<Lead>
-    ensures { result ≡ option_and_then short_enough (bytes_of text.now) }
+    ensures { result ≡ option_and_then short_enough (hex_bytes text.now) }
 {
     let mut room = [0; MAX_BYTES];
     let length = decode(text, &mut room)?;

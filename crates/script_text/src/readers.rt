@@ -3,7 +3,7 @@
 ghost use Rattle.std.specs.{Prelude.{◌≡◌, ◌≤◌, take, option_map, IfSome}, List.list_all};
 ghost use Rattle.token.specs.Sides.{side_named};
 ghost use Rattle.world_text.specs.Words.{word_named};
-ghost use Rattle.script_text.specs.{Events.{slot_of, worker_of}, Texts.{number_of, bytes_of, first_as, word_then, line_end, if_last, full_of, Reads, ReadsBy, Ends, Takes, number_below, value_after, is_lower_hex}};
+ghost use Rattle.script_text.specs.{Events.{slot_said, worker_of}, Texts.{number_of, hex_bytes, first_as, word_then, line_end, if_last, full_of, ReadsDefined, ReadsBy, ReadsLine, Takes, number_below, value_after, is_lower_hex}};
 
 use crate::Bytes;
 use input::{Pieces, is, is_digit, number};
@@ -48,7 +48,7 @@ pub(crate) fn said<'a, T>(
     word: &'a [u8],
     wanted: &'static str,
 ) -> Result<T, Wrong<'a>>
-    ensures { Reads value result }
+    ensures { ReadsDefined value result }
 {
     match value {
         Some(value) => Ok(value),
@@ -61,7 +61,7 @@ const END: &str = "the line should end before this word";
 
 /// Refuses a word that is left, in whose place `wanted` is expected.
 pub(crate) fn end_or<'a>(mut words: Pieces<'a>, wanted: &'static str) -> Result<(), Wrong<'a>>
-    ensures { Reads (line_end words.entry) result }
+    ensures { ReadsDefined (line_end words.entry) result }
 {
     match words.next() {
         None => Ok(()),
@@ -71,7 +71,7 @@ pub(crate) fn end_or<'a>(mut words: Pieces<'a>, wanted: &'static str) -> Result<
 
 /// Returns the value, if no word is left.
 pub(crate) fn last<'a, T: Drop>(value: T, words: Pieces<'a>) -> Result<T, Wrong<'a>>
-    ensures { Reads (if_last value words.entry) result }
+    ensures { ReadsDefined (if_last value words.entry) result }
 {
     end_or(words, END)?;
     Ok(value)
@@ -79,7 +79,7 @@ pub(crate) fn last<'a, T: Drop>(value: T, words: Pieces<'a>) -> Result<T, Wrong<
 
 /// The number of a slot, 0 to 63.
 pub(crate) fn slot<'a>(words: &mut Pieces<'a>) -> Result<usize, Wrong<'a>>
-    ensures { Takes (first_as slot_of words.old) result words.new }
+    ensures { Takes (first_as slot_said words.old) result words.new }
 {
     let wanted = "the number of a slot, 0 to 63, is wanted";
     match words.next() {
@@ -123,7 +123,7 @@ pub(crate) fn count<'a>(words: &mut Pieces<'a>) -> Result<usize, Wrong<'a>>
 
 /// Takes the last word of a line: bytes. A line that goes on is malformed, even if there is no memory.
 pub(crate) fn last_bytes<'a>(alloc: Global, mut words: Pieces<'a>) -> Result<Bytes, NotRead<'a>>
-    ensures { ReadsBy (λ bytes. bytes) (word_then bytes_of if_last words.entry) result }
+    ensures { ReadsBy (λ bytes. bytes) (word_then hex_bytes if_last words.entry) result }
 {
     let wanted = "1 to 1024 bytes as pairs of lower-case hexadecimal digits are wanted";
     let Some(word) = words.next() else {
@@ -142,7 +142,7 @@ pub(crate) fn last_bytes<'a>(alloc: Global, mut words: Pieces<'a>) -> Result<Byt
 
 /// Whether the line's last word is `full`: then a write left no room.
 pub(crate) fn is_full<'a>(words: &mut Pieces<'a>) -> Result<bool, Wrong<'a>>
-    ensures { Ends (full_of words.old) result words.new }
+    ensures { ReadsLine (full_of words.old) result words.new }
 {
     let Some(word) = words.next() else {
         return Ok(false);
@@ -241,7 +241,7 @@ pub(crate) fn value_after(key: &[u8], word: &[u8]) -> Option<usize>
 /// Decodes a text of lower-case hexadecimal into the front of `room`, and returns how many bytes it stands for, 1 to
 /// 1,024. None if it stands for none.
 pub(crate) fn decode(text: &[u8], room: &mut [u8; MAX_BYTES]) -> Option<usize>
-    ensures value { bytes_of text.now ≡ option_map (λ length. take length room.new) result }
+    ensures value { hex_bytes text.now ≡ option_map (λ length. take length room.new) result }
     ensures range { IfSome result (λ length. length ≤ 1024) }
 {
     if text.is_empty() || text.len() > 2 * MAX_BYTES || !is_all_lower_hex(text) {

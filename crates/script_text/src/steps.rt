@@ -1,6 +1,6 @@
 // The steps in a script of one direction.
 ghost use Rattle.std.specs.Prelude.{◌≡◌, ◌≢◌};
-ghost use Rattle.script_text.specs.{Events.{word_of, step_by, step_of}, Texts.{ReadsBy, Ends}};
+ghost use Rattle.script_text.specs.{Events.{step_word, step_by, step_of}, Texts.{ReadsBy, ReadsLine}};
 
 use crate::readers::{NotRead, Wrong, count, first_word, is_full, last, last_bytes};
 use input::Pieces;
@@ -86,7 +86,7 @@ pub struct NumberedEvent {
 impl Step {
     /// The first word of the step.
     pub fn word(&self) -> Word
-        ensures { result ≡ word_of self.now }
+        ensures { result ≡ step_word self.now }
     {
         match self {
             Step::Arrive(_) => Word::Arrive,
@@ -121,7 +121,7 @@ pub fn read_step<'a>(alloc: Global, line: &'a [u8]) -> Result<Step, NotRead<'a>>
 #[tactic(auto, using(crate::proofs::FirstWords::other_step))]
 fn plain_step<'a>(first: Word, words: &mut Pieces<'a>) -> Result<Step, Wrong<'a>>
     requires { first ≢ Word.Arrive }
-    ensures { Ends (step_by first words.old) result words.new }
+    ensures { ReadsLine (step_by first words.old) result words.new }
 {
     match first {
         Word::Fin => Ok(Step::Fin),

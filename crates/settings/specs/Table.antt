@@ -56,12 +56,12 @@ row_of Idle = optional Idle (a_number 0 86400) (number 0)
 row_of Proxy = optional Proxy a_truth (truth false)
 
 -- `Takes`, from which a message says what a key takes, agrees with the kind and its range
-abbrev pub Tells : ValueKind → Takes → Type 0
-Tells (an_address lowest) (takes.Address row) = row.lowest_port ≡ lowest
-Tells (a_number low high) (takes.Number row) = (row.low ≡ low) × (row.high ≡ high)
-Tells a_level takes.Level = Unit {0}
-Tells a_truth takes.Truth = Unit {0}
-Tells _ _ = ⊥
+abbrev pub TellsKind : ValueKind → Takes → Type 0
+TellsKind (an_address lowest) (takes.Address row) = row.lowest_port ≡ lowest
+TellsKind (a_number low high) (takes.Number row) = (row.low ≡ low) × (row.high ≡ high)
+TellsKind a_level takes.Level = Unit {0}
+TellsKind a_truth takes.Truth = Unit {0}
+TellsKind _ _ = ⊥
 
 -- the keys, in the order in which they are read and printed
 abbrev pub keys : List Key

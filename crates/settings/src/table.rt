@@ -1,6 +1,6 @@
 //! The table of the keys: a row has all that is fixed about a key.
 ghost use Rattle.std.specs.Prelude.{◌≡◌, ◌≢◌, ◌↔◌, IsTrue, Some, IfSome, IfNone, option_map};
-ghost use Rattle.settings.specs.{Table.{key_name, row_of, a_truth, Tells}, Document.setting_text};
+ghost use Rattle.settings.specs.{Table.{key_name, row_of, a_truth, TellsKind}, Document.setting_text};
 
 use std::fmt;
 
@@ -56,7 +56,7 @@ impl Key {
     }
 
     pub(crate) fn takes(self) -> &'static Takes
-        ensures { Tells (row_of self).kind result.now }
+        ensures { TellsKind (row_of self).kind result.now }
     {
         &self.row().takes
     }
@@ -73,7 +73,7 @@ impl Key {
     fn row(self) -> &'static Row
         ensures name { result.now.name.now ≡ key_name self }
         ensures default { option_map (λ text. text.now) result.now.default ≡ option_map setting_text (row_of self).default }
-        ensures takes { Tells (row_of self).kind result.now.takes }
+        ensures takes { TellsKind (row_of self).kind result.now.takes }
     {
         &ROWS[self as usize]
     }

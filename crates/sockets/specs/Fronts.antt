@@ -1,10 +1,10 @@
 -- Where a server listens, and what is reported.
 use Rattle.std.specs.{Prelude.{◌≡◌, ◌≢◌, ◌⊎◌, ℕ, pos, ◌*◌, max, min, Bool, true, false, ◌||◌, if◌then◌else◌, List, [], ◌∷◌, map, OnOk, IsTrue, ◌↔◌, Option, Some, None, Result, Ok, Err}, IoError.{error_kind, raw_os_error}, declared.{io.{Error.Error, ErrorKind.TheVariants.Interrupted}, net.{SocketAddr.{SocketAddr, TheVariants.{V4, V6}}, SocketAddrV4.SocketAddrV4}}, Result.result_ok, Net.{Addr.{IsV4And, ipv4_octets}, Socket.{socket_ip, v4_ip, v4_port, IsPlainSocket}}}
 use Rattle.token.specs.{Names.EndName, Numbers.name_of, declared.name.Name.{Name, TheVariants.{Listener, Waker, End}}}
-use Rattle.readiness.specs.Words.{WordName, word_of}
+use Rattle.readiness.specs.Words.{WordName, end_word}
 use Rattle.settings.specs.Addresses.{SocketAddress}
 use Rattle.common.specs.{Told.Seen, declared.front.{Waiting.Waiting, Route.Route}}
-use Rattle.sockets.specs.{declared.forwarding.Forwarding.Forwarding, Wires.{Made, NamedHere}}
+use Rattle.sockets.specs.{declared.forwarding.Forwarding.Forwarding, Wires.{StreamMade, NamedHere}}
 use Rattle.mio.specs.{declared.event.event.Event.Event, Event.{event_token, is_readable, is_error, is_read_closed, is_write_closed}}
 use Rattle.common.specs.declared.front.Waiting.TheVariants as waiting
 
@@ -25,18 +25,18 @@ end_in (Some Waker) = None
 end_in None = None
 
 -- the word of an end, if its slot is one of this many
-abbrev pub word_at : ℕ → Option EndName → Option WordName
-word_at slots (Some end) = word_of slots end.slot end.side
-word_at slots None = None
+abbrev pub word_for : ℕ → Option EndName → Option WordName
+word_for slots (Some end) = end_word slots end.slot end.side
+word_for slots None = None
 
 -- the word that an event sets, if it names reading: the word of the end that its number names
 abbrev pub heard_of : ℕ → Event → Option WordName
-heard_of slots event = if names_reading event then word_at slots (end_in (name_of (event_token event).0)) else None
+heard_of slots event = if names_reading event then word_for slots (end_in (name_of (event_token event).0)) else None
 
 -- a wait for reports failed, and not by a signal (epoll_wait(2))
-abbrev pub Fails : Result (Unit {0}) Error → Type 0
-Fails (Ok done) = ⊥
-Fails (Err error) = error_kind error ≢ Interrupted
+abbrev pub WaitFails : Result (Unit {0}) Error → Type 0
+WaitFails (Ok done) = ⊥
+WaitFails (Err error) = error_kind error ≢ Interrupted
 
 -- A step of what reports on sockets: a wait of this many milliseconds, if nothing ended it before, which gave these events; or
 -- an event was passed on at the word that it sets, if any
@@ -71,8 +71,8 @@ abbrev pub longest_of : ℕ → ℕ
 longest_of pollers = 100 * max (min pollers 16) 2
 
 -- a front as it begins, one of this many
-abbrev pub IsFresh : {P : Type 0} → Forwarding → ℕ → Watched P → Type 0
-IsFresh forwarding pollers front = front ≡ record {
+abbrev pub IsFreshFront : {P : Type 0} → Forwarding → ℕ → Watched P → Type 0
+IsFreshFront forwarding pollers front = front ≡ record {
   poll = front.poll;
   forwarding = forwarding;
   seen = record { reported = []; failed = false; waited = 0; longest = longest_of pollers; listens = true; target = forwarding.target };
@@ -106,7 +106,7 @@ OnlyLacked old new =
 -- What a wait for reports says of this front, beside what it says of any. After a brief wait without a report the front
 -- leaves no client, and after a long one it no longer lacks memory
 pub record WaitEnded {P : Type 0} (wait : Waiting) (answer : Result (Unit {0}) Error) (old new : Watched P) : Type 0 where
-  pub fails : IsTrue new.seen.failed ↔ Fails answer
+  pub fails : IsTrue new.seen.failed ↔ WaitFails answer
   pub quiet : OnOk answer (wait ≡ waiting.Brief → new.seen.reported ≡ [] → new.left ≡ most_left)
   pub kept : wait ≢ waiting.Brief → new.left ≡ old.left
   pub eased : OnOk answer (wait ≡ waiting.Long → new.seen.reported ≡ [] → new.lacking ≡ 0)
@@ -124,16 +124,16 @@ abbrev pub IsAt : SocketAddress → SocketAddr → Type 0
 IsAt (octets, port) address = IsV4And (socket_ip address) (λ ip. ipv4_octets ip ≡ octets) × IsPlainSocket address port
 
 -- a socket that was passed to the program, and its address
-pub record Given (L : Type 0) : Type 0 where
+pub record GivenSocket (L : Type 0) : Type 0 where
   pub listener : L
   pub address : SocketAddrV4
 
 -- A passed socket is of TCP, is at this address, and listens; and its calls were made to return at once
-pub data Found : Type 0 where
-  OfTcp : Found
-  At : SocketAddr → Found
-  Listened : Found
-  Prompt : Found
+pub data SocketFound : Type 0 where
+  OfTcp : SocketFound
+  At : SocketAddr → SocketFound
+  Listened : SocketFound
+  Prompt : SocketFound
 
 -- a socket at this address is where one was asked for; port 0 asks for any
 abbrev pub Agrees : SocketAddress → SocketAddrV4 → Type 0
@@ -141,14 +141,14 @@ Agrees listen address = (ipv4_octets (v4_ip address) ≡ listen.0) × ((listen.1
 
 module _ {L : Type 0} where
   -- all of that was found of a passed socket, and its address is of IPv4
-  pub record AreAllFound (found : Found → L → Type 0) (given : Given L) : Type 0 where
+  pub record AreAllFound (found : SocketFound → L → Type 0) (given : GivenSocket L) : Type 0 where
     pub of_tcp : found OfTcp given.listener
     pub here : found (At (V4 given.address)) given.listener
     pub listened : found Listened given.listener
     pub prompt : found Prompt given.listener
 
   -- this passed socket is what listens, where it was asked for
-  pub record IsPassed (given : Given L) (listen : SocketAddress) (bound : Listens L) : Type 0 where
+  pub record IsPassed (given : GivenSocket L) (listen : SocketAddress) (bound : Listens L) : Type 0 where
     pub listener : bound.listener ≡ given.listener
     pub address : bound.address ≡ V4 given.address
     pub agrees : Agrees listen given.address
@@ -160,7 +160,7 @@ v4_of (Some (V6 address)) = None
 v4_of None = None
 
 -- the address at a socket's own end, as the system says it
-abbrev pub IsLocal : {S : Type 0} → (Made → S → S → Type 0) → S → Option SocketAddrV4 → Type 0
+abbrev pub IsLocal : {S : Type 0} → (StreamMade → S → S → Type 0) → S → Option SocketAddrV4 → Type 0
 IsLocal did socket address = (named : Result SocketAddr Error) × did (NamedHere named) socket socket × (address ≡ v4_of (result_ok named))
 
 -- The addresses that a front gives of a client's connection: none unless targets are sent them, else the client's own.

@@ -16,8 +16,8 @@ pub record Sending : Type 0 where
   pub full_offers : ℕ
 
 -- as the system makes a socket
-abbrev pub waiting : Sending
-waiting = record { at_once = false; full_offers = 0 }
+abbrev pub plain_sending : Sending
+plain_sending = record { at_once = false; full_offers = 0 }
 
 -- while a connection is quiet
 abbrev pub prompt : Sending
@@ -54,7 +54,8 @@ unlimited patience = record patience { connect = None }
 
 -- a new socket, which is known to be connected or not
 abbrev pub fresh_wire : Bool → Option SocketAddr → Socket
-fresh_wire joined peer = record { tally = tally joined 0 0; sending = waiting; reads = true; peer = peer; watched = None; patience = unset }
+fresh_wire joined peer =
+    record { tally = tally joined 0 0; sending = plain_sending; reads = true; peer = peer; watched = None; patience = unset }
 
 abbrev pub promptly : Socket → Socket
 promptly socket = record socket { sending = prompt }
@@ -96,18 +97,18 @@ SendsAfter (Write offer) old new = IsOffered (length offer) old new
 SendsAfter asked old new = new ≡ old
 
 -- whether the wire reads the socket after an error: no more after a read that would block, again after any failure
-abbrev pub goes_on : CallKind → Class → Bool → Bool
-goes_on call class.Interrupted reads = reads
-goes_on call (class.Failed kind) reads = true
-goes_on call.Read class.Blocked reads = false
-goes_on call class.Blocked reads = reads
+abbrev pub reads_after_error : CallKind → Class → Bool → Bool
+reads_after_error call class.Interrupted reads = reads
+reads_after_error call (class.Failed kind) reads = true
+reads_after_error call.Read class.Blocked reads = false
+reads_after_error call class.Blocked reads = reads
 
 -- whether it reads after a write: to take no byte of an offer that isn't empty is a failure
 abbrev pub goes_on_after : ℕ → ℕ → Bool → Bool
 goes_on_after count offered reads = if count == 0 then (if offered == 0 then reads else true) else reads
 
 abbrev pub reads_after : Asked → Given → Bool → Bool → Bool
-reads_after asked (Refused kind) joined reads = goes_on (call_of asked) (class_by (call_of asked) joined kind) reads
+reads_after asked (Refused kind) joined reads = reads_after_error (call_of asked) (class_by (call_of asked) joined kind) reads
 reads_after (Write offer) (Took count) joined reads = goes_on_after count (length offer) reads
 reads_after asked given joined reads = reads
 
@@ -116,7 +117,7 @@ abbrev pub ReadsAfter : Asked → Given → Socket → Socket → Type 0
 ReadsAfter (Read most) given old new = Unit {0}
 ReadsAfter asked given old new = new.reads ≡ reads_after asked given old.tally.joined old.reads
 
-pub record IsCalled (asked : Asked) (given : Given) (old new : Socket) : Type 0 where
+pub record SocketCalled (asked : Asked) (given : Given) (old new : Socket) : Type 0 where
   pub tally : new.tally ≡ tally_after asked given old.tally
   pub sending : SendsAfter asked old.sending new.sending
   pub reads : ReadsAfter asked given old new
@@ -129,19 +130,19 @@ pub record IsCalled (asked : Asked) (given : Given) (old new : Socket) : Type 0 
 -- SO_KEEPALIVE of socket(7), after this many seconds, by a call for each of its numbers; epoll_ctl(2), under this
 -- number and with this word. And a look, which is no system call: whether a report that names reading came since the
 -- last look
-pub data Made : Type 0 where
-  Called : Asked → Given → Made
-  Pending : Result (Option Error) Error → Made
-  Named : Result SocketAddr Error → Made
-  NamedHere : Result SocketAddr Error → Made
-  SentAtOnce : Bool → Made
-  GivesUpAfter : ℕ → Made
-  Probes : ℕ → Made
-  Registered : ℕ → Option WordName → Made
-  Looked : Bool → Made
+pub data StreamMade : Type 0 where
+  Called : Asked → Given → StreamMade
+  Pending : Result (Option Error) Error → StreamMade
+  Named : Result SocketAddr Error → StreamMade
+  NamedHere : Result SocketAddr Error → StreamMade
+  SentAtOnce : Bool → StreamMade
+  GivesUpAfter : ℕ → StreamMade
+  Probes : ℕ → StreamMade
+  Registered : ℕ → Option WordName → StreamMade
+  Looked : Bool → StreamMade
 
 -- Only the system knows what a system call does to a socket of the type S. So what follows holds for any such relation
-module _ {S : Type 0} (did : Made → S → S → Type 0) where
+module _ {S : Type 0} (did : StreamMade → S → S → Type 0) where
   -- the socket option is set if it changes, and else left alone
   pub record Switches (was is : Bool) (before after : S) : Type 0 where
     pub on : was ≡ false → is ≡ true → did (SentAtOnce true) before after
@@ -209,4 +210,4 @@ module _ {S : Type 0} (did : Made → S → S → Type 0) where
 
   abbrev pub IsDone : Asked → Given → Wired S → Wired S → Type 0
   IsDone asked given old new =
-      IsCalled asked given old.socket new.socket × Makes asked given old.socket new.socket old.stream new.stream
+      SocketCalled asked given old.socket new.socket × Makes asked given old.socket new.socket old.stream new.stream

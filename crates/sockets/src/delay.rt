@@ -1,6 +1,6 @@
 //! When a socket sends at once, and when it waits for more (TCP_NODELAY).
 ghost use Rattle.std.specs.Prelude.{◌≡◌, ◌↔◌, true, false, IsTrue};
-ghost use Rattle.sockets.specs.Wires.{waiting, prompt, IsOffered};
+ghost use Rattle.sockets.specs.Wires.{plain_sending, prompt, IsOffered};
 
 use crate::limits::BULK;
 use relay_core::MAX_READ;
@@ -31,7 +31,7 @@ impl Model for Delay {
 impl Delay {
     /// A socket as the system creates it.
     pub(crate) fn new() -> Delay
-        ensures { result ≡ waiting }
+        ensures { result ≡ plain_sending }
     {
         Delay {
             at_once: false,

@@ -25,9 +25,9 @@ pub struct Passed<L = TcpListener> {
 }
 
 impl<L> Model for Passed<L> {
-    ghost use Rattle.sockets.specs.Fronts.{Given};
+    ghost use Rattle.sockets.specs.Fronts.{GivenSocket};
 
-    ghost Value = { Given L };
+    ghost Value = { GivenSocket L };
 
     ghost view = { λ p. record { listener = p.listener; address = p.address } };
 }
@@ -118,10 +118,10 @@ fn last_error() -> io::Error {
 
 /// What may be a listening socket. Only the system knows what it is, so the trait leaves that open.
 trait Passable {
-    ghost use Rattle.sockets.specs.Fronts.{Found};
+    ghost use Rattle.sockets.specs.Fronts.{SocketFound};
 
     // The system says this of it, or has done this to it.
-    ghost found: { Found → Self → Type 0 };
+    ghost found: { SocketFound → Self → Type 0 };
 
     /// Fails if it is no TCP socket: no other has the option TCP_NODELAY (tcp(7)).
     fn look_for_tcp(&self) -> io::Result<()>

@@ -1,6 +1,6 @@
 //! A poller's front over epoll(7): it waits, accepts, connects and registers.
 ghost use Rattle.std.specs.{Prelude.{◌≡◌, ◌≢◌, ◌↔◌, ◌⊎◌, IsTrue, if◌then◌else◌, ◌+◌, ◌-◌, ◌<◌, ◌≤◌, All, [], true, false, Some, None, IfOk, OnOk, IfErr, OnErr, Err, IsErrAnd, vec_len, vec_capacity}, Arc.arc_value, IoError.error_kind, declared.io.{Error.Error, ErrorKind.TheVariants.Interrupted}};
-ghost use Rattle.sockets.specs.{Fronts.{longest_of, most_lacking, most_left, v4_of, IsFresh, LacksDescriptors, LacksMemory, IsLocal, IsRoute, MayTell, OnlyLacked, Polls, WaitEnded}, Wires.{SameButWatched, fresh_wire, patient, under, unlimited}};
+ghost use Rattle.sockets.specs.{Fronts.{longest_of, most_lacking, most_left, v4_of, IsFreshFront, LacksDescriptors, LacksMemory, IsLocal, IsRoute, MayTell, OnlyLacked, Polls, WaitEnded}, Wires.{SameButWatched, fresh_wire, patient, under, unlimited}};
 ghost use Rattle.common.specs.{Told.{millis_of, unaccepted_of, Waited}, declared.front.{Unaccepted.TheVariants.Starved, Unopened.TheVariants.{Connect, Register}}};
 ghost use Rattle.sizes.specs.Splits.{parts_of};
 
@@ -111,7 +111,7 @@ pub fn open_all<'r, R: Net + Log>(
     stop: &Stop,
 ) -> Result<(Vec<Sockets<'r, R>>, Arc<Wakers>), ServerFault>
     ensures count { IfOk result (λ made. vec_len made.0 ≡ parts_of split.slots split.size) }
-    ensures opened { IfOk result (λ made. All (IsFresh forwarding (parts_of split.slots split.size)) made.0.items) }
+    ensures opened { IfOk result (λ made. All (IsFreshFront forwarding (parts_of split.slots split.size)) made.0.items) }
     ensures wakers { IfOk result (λ made. (arc_value made.1).split ≡ split) }
     ensures refused { IfErr result (λ fault. (fault ≡ ServerFault.Poll) ⊎ (fault ≡ ServerFault.NoMemory)) }
 {
@@ -158,7 +158,7 @@ fn fronts_of<'r, R: Net + Log>(
     stop: &Stop,
 ) -> Result<(Vec<Sockets<'r, R>>, Arc<Wakers>), ServerFault>
     ensures count { IfOk result (λ made. vec_len made.0 ≡ parts_of split.slots split.size) }
-    ensures opened { IfOk result (λ made. All (IsFresh forwarding (parts_of split.slots split.size)) made.0.items) }
+    ensures opened { IfOk result (λ made. All (IsFreshFront forwarding (parts_of split.slots split.size)) made.0.items) }
     ensures wakers { IfOk result (λ made. (arc_value made.1).split ≡ split) }
     ensures refused { IfErr result (λ fault. (fault ≡ ServerFault.Poll) ⊎ (fault ≡ ServerFault.NoMemory)) }
 {
@@ -182,7 +182,7 @@ fn open_one<'r, R: Net + Log>(
     poller: usize,
     pollers: usize,
 ) -> Result<(Sockets<'r, R>, Waker), ServerFault>
-    ensures front { IfOk result (λ made. IsFresh forwarding pollers made.0) }
+    ensures front { IfOk result (λ made. IsFreshFront forwarding pollers made.0) }
     ensures refused { IfErr result (λ fault. (fault ≡ ServerFault.Poll) ⊎ (fault ≡ ServerFault.NoMemory)) }
 {
     match reports_on(rt, &shared.listener) {
@@ -206,7 +206,7 @@ fn front_of<'r, R>(
     poller: usize,
     pollers: usize,
 ) -> Result<Sockets<'r, R>, AllocError>
-    ensures { IfOk result (IsFresh forwarding pollers) }
+    ensures { IfOk result (IsFreshFront forwarding pollers) }
 {
     Ok(Sockets {
         rt,

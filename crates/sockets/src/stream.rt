@@ -1,7 +1,7 @@
 //! What a wire needs of a system's socket.
 ghost use Rattle.std.specs.{Prelude.{length, OnOk}, Io.WritesAtMost};
 ghost use Rattle.engine.specs.Wires.{read_gave, write_gave, call_gave};
-ghost use Rattle.sockets.specs.Wires.{Made, Called, Pending, Named, NamedHere, SentAtOnce, GivesUpAfter, Probes, Registered, Looked};
+ghost use Rattle.sockets.specs.Wires.{StreamMade, Called, Pending, Named, NamedHere, SentAtOnce, GivesUpAfter, Probes, Registered, Looked};
 ghost use Rattle.engine.specs.Wires as ask;
 
 use mio::{Registry, Token};
@@ -16,7 +16,7 @@ use std::net::SocketAddr;
 /// socket says which calls it makes, and that it gives their answers unchanged.
 pub trait Stream {
     // What a system call may do: the call with its answer, and the socket before and after.
-    ghost did: { Made → Self → Self → Type 0 };
+    ghost did: { StreamMade → Self → Self → Type 0 };
 
     /// read(2) into all of the buffer.
     fn read(&mut self, buffer: &mut [u8]) -> io::Result<usize>

@@ -3,7 +3,7 @@ ghost use Rattle.std.specs.Prelude.{◌≡◌, ◌↔◌, ◌≤◌, ◌+◌, �
 ghost use Rattle.mio.specs.Events.{items, capacity as events_capacity};
 ghost use Rattle.common.specs.Told.{millis_of};
 ghost use Rattle.token.specs.Numbers.{name_of};
-ghost use Rattle.sockets.specs.Fronts.{end_in, heard_of, names_reading, numbers, ArePassedOn, Fails, Gave, PassedOn};
+ghost use Rattle.sockets.specs.Fronts.{end_in, heard_of, names_reading, numbers, ArePassedOn, WaitFails, Gave, PassedOn};
 
 use common::Waiting;
 use mio::event::Event;
@@ -91,7 +91,7 @@ impl<P: Reporter> Waiter<P> {
         ensures asked { P.did (Gave (millis_of wait self.old.longest) (items self.new.events)) self.old.poll self.new.poll }
         ensures waited { self.new.waited ≡ millis_of wait self.old.longest }
         ensures longest { self.new.longest ≡ self.old.longest }
-        ensures failed { IsTrue self.new.failed ↔ Fails result }
+        ensures failed { IsTrue self.new.failed ↔ WaitFails result }
         ensures count { length (items self.new.events) ≤ events_capacity self.old.events }
         ensures none { OnErr result (items self.new.events ≡ []) }
         ensures capacity { events_capacity self.new.events ≡ events_capacity self.old.events }
@@ -105,7 +105,7 @@ impl<P: Reporter> Waiter<P> {
 
 /// Whether a wait failed. A signal that ends a wait is no failure.
 fn has_failed(answer: &io::Result<()>) -> bool
-    ensures { IsTrue result ↔ Fails answer.now }
+    ensures { IsTrue result ↔ WaitFails answer.now }
 {
     match answer {
         Ok(()) => false,

@@ -2,7 +2,7 @@
 ghost use Rattle.std.specs.{Prelude.{◌≡◌, true, false, Some, None, IfSome, OnOk, OnErr}, IoError.error_kind};
 ghost use Rattle.token.specs.Names.{end_number};
 ghost use Rattle.engine.specs.{Classes.{class_by, pending_kind, connected, counted}, Wires.call_gave};
-ghost use Rattle.sockets.specs.Wires.{HasAddress, IsOffered, Registered, Switches, Joins, Lifts, Limits, Probing, Waits, fresh_wire, patient, promptly, took, under, goes_on, goes_on_after, Looked};
+ghost use Rattle.sockets.specs.Wires.{HasAddress, IsOffered, Registered, Switches, Joins, Lifts, Limits, Probing, Waits, fresh_wire, patient, promptly, took, under, reads_after_error, goes_on_after, Looked};
 
 use crate::delay::Delay;
 use crate::failure::log_failure;
@@ -202,7 +202,7 @@ impl<S: Stream> SocketWire<S> {
     fn refuse(&mut self, call: CallKind, error: &io::Error)
         ensures counted { self.new.socket.tally ≡ counted (class_by call self.old.socket.tally.joined (error_kind error.now))
             self.old.socket.tally }
-        ensures reads { self.new.socket.reads ≡ goes_on call (class_by call self.old.socket.tally.joined (error_kind error.now))
+        ensures reads { self.new.socket.reads ≡ reads_after_error call (class_by call self.old.socket.tally.joined (error_kind error.now))
             self.old.socket.reads }
         ensures joined { self.new.socket.tally.joined ≡ self.old.socket.tally.joined }
         ensures rest { self.new.socket ≡ record self.old.socket { tally = self.new.socket.tally; reads = self.new.socket.reads } }
@@ -217,7 +217,11 @@ impl<S: Stream> SocketWire<S> {
     /// After a read that would block, the wire stops reading. After a failure, which is kept for the log, it reads
     /// again.
     fn heed(&mut self, call: CallKind, class: Class, error: &io::Error)
-        ensures { self.new ≡ record self.old { socket = record self.old.socket { reads = goes_on call class self.old.socket.reads } } }
+        ensures { self.new ≡ record self.old {
+          socket = record self.old.socket {
+            reads = reads_after_error call class self.old.socket.reads;
+          };
+        } }
     {
         match class {
             Class::Interrupted => {}

@@ -55,8 +55,8 @@ abbrev pub moved : ℕ → ℕ → Counts → Counts
 moved up down c = set is.Down (sum (at is.DownEnded c) down) (set is.Up (sum (at is.UpEnded c) up) c)
 
 -- the open connection has ended, with the bytes that were counted
-abbrev pub closed : Counts → Counts
-closed c = set is.DownEnded (at is.Down c) (set is.UpEnded (at is.Up c) c)
+abbrev pub counts_closed : Counts → Counts
+counts_closed c = set is.DownEnded (at is.Down c) (set is.UpEnded (at is.Up c) c)
 
 -- a failed call is counted by the side of its socket, and by how it failed
 abbrev pub verdict_counted : Verdict → Counts → Counts
@@ -66,11 +66,11 @@ verdict_counted (Failed Idle) c = raised is.Idle c
 verdict_counted (Failed (Broken side call kind)) c = raised (is.Broken side kind) c
 
 -- the counts after this event
-abbrev pub after : Event → Counts → Counts
-after Dropped c = raised is.Dropped c
-after Opened c = raised is.Opened c
-after (Moved up down) c = moved up down c
-after (Ended verdict up down) c = verdict_counted verdict (closed (moved up down c))
+abbrev pub counts_after : Event → Counts → Counts
+counts_after Dropped c = raised is.Dropped c
+counts_after Opened c = raised is.Opened c
+counts_after (Moved up down) c = moved up down c
+counts_after (Ended verdict up down) c = verdict_counted verdict (counts_closed (moved up down c))
 
 -- the sums of two slots' counts, each with its like
 abbrev pub plus : Counts → Counts → Counts
@@ -101,19 +101,19 @@ no_sums slots levels counts = record { slots = slots; live = 0; levels = levels;
 abbrev pub added : Counts → Totals → Totals
 added c t = record t { live = sum t.live (live_at c); sums = plus t.sums c }
 
-abbrev pub number_of : Figure → Totals → ℕ
-number_of figure.Open t = t.live
-number_of figure.Slots t = t.slots
+abbrev pub figure_number : Figure → Totals → ℕ
+figure_number figure.Open t = t.live
+figure_number figure.Slots t = t.slots
 -- those that are open, are done or have failed
-number_of figure.Opened t = t.live + (at is.Done t.sums + failed_of t.sums)
-number_of figure.Failed t = failed_of t.sums
-number_of (figure.At side) t = failed_at side t.sums
-number_of (figure.As kind) t = failed_as kind t.sums
-number_of (figure.Of count) t = at count t.sums
-number_of figure.MostOpen t = t.levels.most
-number_of figure.FullSeconds t = t.levels.full_seconds
-number_of figure.WaitingSeconds t = t.levels.waiting_seconds
-number_of figure.LostRecords t = t.levels.lost
+figure_number figure.Opened t = t.live + (at is.Done t.sums + failed_of t.sums)
+figure_number figure.Failed t = failed_of t.sums
+figure_number (figure.At side) t = failed_at side t.sums
+figure_number (figure.As kind) t = failed_as kind t.sums
+figure_number (figure.Of count) t = at count t.sums
+figure_number figure.MostOpen t = t.levels.most
+figure_number figure.FullSeconds t = t.levels.full_seconds
+figure_number figure.WaitingSeconds t = t.levels.waiting_seconds
+figure_number figure.LostRecords t = t.levels.lost
 
 -- What is done to the places of the slots' counts, and to the gauge.
 
@@ -129,7 +129,7 @@ pub data Step : Type 0 where
 module _ {M : Type 0} (did : Step → M → Type 0) where
   -- an event was counted: counts were read, and what the event makes of them was stored
   abbrev pub IsCounted : Event → M → Type 0
-  IsCounted event place = (counts : Counts) × did (Loaded counts) place × did (Stored (after event counts)) place
+  IsCounted event place = (counts : Counts) × did (Loaded counts) place × did (Stored (counts_after event counts)) place
 
   -- the sums before, with what was read of each of these places
   abbrev pub AreSums : List M → Totals → Totals → Type 0

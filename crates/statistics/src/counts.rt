@@ -1,6 +1,6 @@
 //! What is counted, and what an event adds to it.
 ghost use Rattle.std.specs.Prelude.{◌≡◌, ◌*◌, ◌<◌, ◌^◌};
-ghost use Rattle.statistics.specs.Counts.{after, at, closed, failed_as, failed_at, failed_of, kind_number, live_at, moved, place_of, plus, raised, verdict_counted};
+ghost use Rattle.statistics.specs.Counts.{counts_after, at, counts_closed, failed_as, failed_at, failed_of, kind_number, live_at, moved, place_of, plus, raised, verdict_counted};
 
 use crate::event::Event;
 use relay_core::{Fault, Verdict};
@@ -88,7 +88,7 @@ impl Counts {
 
     /// The counts after this event.
     pub fn after(self, event: Event) -> Counts
-        ensures { result ≡ after event self }
+        ensures { result ≡ counts_after event self }
     {
         let mut counts = self;
         match event {
@@ -118,7 +118,7 @@ impl Counts {
     }
 
     fn close(&mut self)
-        ensures { self.new ≡ closed self.old }
+        ensures { self.new ≡ counts_closed self.old }
     {
         self.numbers[Count::UpEnded.place()] = self.at(Count::Up);
         self.numbers[Count::DownEnded.place()] = self.at(Count::Down);

@@ -1,6 +1,6 @@
 //! The sums of the counts, and their line of the log.
 ghost use Rattle.std.specs.Prelude.{◌≡◌};
-ghost use Rattle.statistics.specs.Counts.{added, no_sums, number_of};
+ghost use Rattle.statistics.specs.Counts.{added, no_sums, figure_number};
 
 use crate::counts::{Count, Counts};
 use crate::gauge::Levels;
@@ -90,7 +90,7 @@ impl Totals {
 
     /// The number of this kind.
     pub fn number(&self, figure: Figure) -> u128
-        ensures { result ≡ number_of figure self.now }
+        ensures { result ≡ figure_number figure self.now }
     {
         match figure {
             Figure::Open => u128::from(self.live),

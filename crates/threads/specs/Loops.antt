@@ -7,7 +7,7 @@ use Rattle.sizes.specs.declared.faults.ServerFault.{ServerFault}
 use Rattle.common.specs.{declared.{front.Unaccepted.Unaccepted, shared.Own.Own}, Outgoing.{tickets_out, without_first}, Posts.{IsWorn, OnlyWorn}}
 use Rattle.sizes.specs.{declared.split.Split.Split, Limits.own_turns, Splits.{IsIn, part_of, parts_of}}
 use Rattle.turns.specs.{declared.worker.Worked.Worked, Shares.TicketsShared, Turns.{IsTurnOf, NoOwnTurn, TurnMade, marks_after}}
-use Rattle.rounds.specs.{Acts.{SeatAct, ActsMade, due_of}, Pollers.{PollerState, HasOpenedAll}, Openings.times, Rounds.{EndedEarly, NotBegun as NoRound, RoundDone, RoundEnded, RoundKeeps, RoundRefused, WaitedAsMay}}
+use Rattle.rounds.specs.{Acts.{SeatAct, ActsMade, due_of}, Pollers.{PollerState, HasOpenedAll}, Openings.times, Rounds.{EndedEarly, NoRound, RoundDone, RoundEnded, RoundKeeps, RoundRefused, WaitedAsMay}}
 use Rattle.threads.specs.{declared.{ending.Why.{Why, TheVariants.{FaultFound, PollerOver, QueueClosed, Met}}, working.Owned.Owned}, Divided.ends_of}
 use Rattle.turns.specs.declared.worker.Worked.TheVariants as worked
 
@@ -56,18 +56,18 @@ pub record Run : Type 0 where
   pub answer : Result Worked ServerFault
   pub exchanges : List Exchange
 
-abbrev pub tickets_of : List Run → List Ticket
-tickets_of ran = map (λ (run : Run). run.ticket) ran
+abbrev pub tickets_run : List Run → List Ticket
+tickets_run ran = map (λ (run : Run). run.ticket) ran
 
 abbrev pub act_of : Run → SeatAct
 act_of run = record { ticket = run.ticket; exchanges = run.exchanges }
 
-abbrev pub acts_of : List Run → List SeatAct
-acts_of ran = map act_of ran
+abbrev pub seat_acts : List Run → List SeatAct
+seat_acts ran = map act_of ran
 
 -- the tickets that turns made, in order
 abbrev pub due_from : List Run → List Ticket
-due_from ran = due_of (acts_of ran)
+due_from ran = due_of (seat_acts ran)
 
 -- the slot of a connection that a turn ended is free, unless its generation was the last
 abbrev pub freed_by : Ticket → Result Worked ServerFault → List ℕ
@@ -92,7 +92,7 @@ IsRun words run = IsTurnOf words run.ticket.slot run.answer run.exchanges
 -- this seat made these turns, and nothing else
 pub record TurnsMade (ran : List Run) (old new : SeatState) : Type 0 where
   pub each : All (IsRun old.table.words) ran
-  pub made : ActsMade (acts_of ran) old new
+  pub made : ActsMade (seat_acts ran) old new
 
 -- what each of these ends of queues of free slots has taken
 abbrev pub takes_of : List (EndState ℕ) → List (List (ℕ × ℕ))
@@ -136,7 +136,7 @@ pub record WorkerRan (left : List Ticket) (faults : List ServerFault) (old new :
   pub ran : List Run
   pub did : WorkerTurns ran left old new
   pub met : faults_of ran ≡ faults
-  pub taken : tickets_in new.own ≡ tickets_in old.own ++ (tickets_of ran ++ left)
+  pub taken : tickets_in new.own ≡ tickets_in old.own ++ (tickets_run ran ++ left)
 
 -- a worker's thread may end: it found a fault, as this mark shows, or it met one since its seat is worn, or it found its queue
 -- of tickets closed, and then empty, and has put and taken nothing since
@@ -216,7 +216,7 @@ pub record TurnsCut (mark : ℕ) (why : Why) (p q : PollerState) (a b : Own) : T
 
 -- A look at the flag that stops openings found this; `said` is what is known of the look. If the flag was set, the
 -- poller may open no more from now on. Else the poller is as it was
-pub record Asked (said : Bool → Type 0) (old new : PollerState) : Type 0 where
+pub record StopAsked (said : Bool → Type 0) (old new : PollerState) : Type 0 where
   pub found : Bool
   pub looked : said found
   pub stopped : found ≡ true → ((new ≡ old) × HasOpenedAll old) ⊎ (new ≡ record old { most = 0 })
@@ -234,7 +234,7 @@ module _ (said : Bool → Type 0) (tells : ℕ → Type 0) (gave_none : Unaccept
   -- a poller's thread made a round, after a look at the flag that stops openings
   pub record RoundMade (p q : PollerState) (a b : Own) : Type 0 where
     pub begun : PollerState
-    pub asked : Asked said p begun
+    pub asked : StopAsked said p begun
     pub round : RoundDone begun q a b
     pub keeps : RoundKeeps limit begun q a b
     pub waits : EndedEarly (length q.table) a ⊎ WaitedAsMay limit begun q a b

@@ -4,7 +4,7 @@ ghost use Rattle.claims.specs.Seats.{HoldsNothing};
 ghost use Rattle.rounds.specs.{Episodes.no_drops, Pollers.HasOpenedAll};
 ghost use Rattle.turns.specs.Turns.{NoOwnTurn};
 ghost use Rattle.common.specs.Posts.{OnlyWorn};
-ghost use Rattle.threads.specs.{Loops.{AllWoken, Asked, IsTold, LoopMade, OnlyMarked, OwnRan, RoundCut, RoundOver, RunMade, StepCut, StepMade, TurnsAfter, TurnsCut}};
+ghost use Rattle.threads.specs.{Loops.{AllWoken, StopAsked, IsTold, LoopMade, OnlyMarked, OwnRan, RoundCut, RoundOver, RunMade, StepCut, StepMade, TurnsAfter, TurnsCut}};
 
 use crate::context::{Context, StopFlag, Told};
 use crate::ending::{Ended, NoFault, end_if_over};
@@ -109,7 +109,7 @@ impl<F: Front> PollerThread<F> {
     /// If the flag is set, a poller that might open more opens no more, and wakes all pollers, which then see it, too.
     fn stop_if_asked<G, C, R: Wait, S: StopFlag>(&mut self, context: &Context<'_, G, C, R, S>)
         ensures own { self.new.own ≡ self.old.own }
-        ensures asked { Asked (S.said context.now.is_stopped.now) self.old.poller self.new.poller }
+        ensures asked { StopAsked (S.said context.now.is_stopped.now) self.old.poller self.new.poller }
         ensures woken { (self.new.poller ≡ self.old.poller) ⊎ AllWoken (F.woke (arc_value self.old.shared).waker) context.now.split }
     {
         if context.is_stopped.is_set() && !self.poller.has_opened_all() {

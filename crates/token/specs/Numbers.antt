@@ -13,11 +13,11 @@ IsName Listener = ⊤
 IsName Waker = ⊤
 IsName (End name) = IsEndName name
 
-abbrev pub side_of : ℕ → Side
-side_of bit = if bit == 0 then Client else Target
+abbrev pub number_side : ℕ → Side
+number_side bit = if bit == 0 then Client else Target
 
 abbrev pub end_of : ℕ → EndName
-end_of number = record { slot = number % 65536 / 2; side = side_of (number % 2); generation = number / 65536 }
+end_of number = record { slot = number % 65536 / 2; side = number_side (number % 2); generation = number / 65536 }
 
 -- the name that a number stands for, or None
 abbrev pub name_of : ℕ → Option Name

@@ -114,12 +114,12 @@ abbrev pub noted_by : ℕ → PairState → PairState
 noted_by notes pair = if nat_lt 0 notes then noted pair else pair
 
 -- How a wire is served: at this second these answers to a pair's calls on a side led it from one state to another
-abbrev pub Serves : Type 0 → Type 1
-Serves S = ℕ → S → S → Side → PairState → List AnswerValue → Type 0
+abbrev pub WireServes : Type 0 → Type 1
+WireServes S = ℕ → S → S → Side → PairState → List AnswerValue → Type 0
 
 -- a connection had one turn on its two wires, after this many notes were taken: with this budget, at this second, and with this
 -- idle limit
-abbrev pub Plays : {C T : Type 0} → Serves C → Serves T → ℕ → ℕ → ℕ → ℕ → Berth C T → Berth C T → Type 0
+abbrev pub Plays : {C T : Type 0} → WireServes C → WireServes T → ℕ → ℕ → ℕ → ℕ → Berth C T → Berth C T → Type 0
 Plays client target budget second limit notes old new = IsTurn budget second limit (noted_by notes old.pair) new.pair
     (client second old.client new.client) (target second old.target new.target)
 
@@ -128,7 +128,7 @@ abbrev pub Playing : Type 0 → Type 0 → Type 1
 Playing C T = ℕ → Berth C T → Berth C T → Type 0
 
 -- How a connection is played: at a second that the clock may show, with no more calls than the budget, and with this idle limit
-abbrev pub PlaysAt : {C T : Type 0} → Serves C → Serves T → (ℕ → Type 0) → ℕ → ℕ → Playing C T
+abbrev pub PlaysAt : {C T : Type 0} → WireServes C → WireServes T → (ℕ → Type 0) → ℕ → ℕ → Playing C T
 PlaysAt client target tells budget limit notes old new = (second : ℕ) × tells second × Plays client target budget second limit notes old new
 
 -- A turn's connection: which it found in the place, what that was before and after its calls, and before and after its sockets

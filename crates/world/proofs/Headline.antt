@@ -63,7 +63,7 @@ room_one : (o : Option Registered) → takes o ≡ true → (x : Registered) × 
 room_one o h = grind arith
 
 -- the rings are as long as the limits say
-capacity_of : (p : PairState) (s g r : ℕ) (d : Direction) → place_of p ≡ record { slot = s; generation = g; up_capacity = r; down_capacity = r } → (stream_of p d).capacity ≡ r
+capacity_of : (p : PairState) (s g r : ℕ) (d : Direction) → pair_place p ≡ record { slot = s; generation = g; up_capacity = r; down_capacity = r } → (stream_of p d).capacity ≡ r
 capacity_of p s g r d e = grind arith
 
 empty_so : (xs : List ℕ) → nat_lt 0 (length xs) ≡ false → xs ≡ []
@@ -80,27 +80,27 @@ record Rests (st : State) (s : ℕ) (p : SlotState) (c : Connection) : Type 0 wh
   lies : slice_get st.slots s ≡ Some p
   is : p.connection ≡ Some c
   none : p.notes ≡ []
-  stands : place_of c.pair ≡ standing (facts st s p.generation) p.generation
+  stands : pair_place c.pair ≡ standing (facts st s p.generation) p.generation
   rest : (d : Direction) → IsAtRest c.pair d
 
 module _ (st : State) (s : ℕ) (p : SlotState) (c : Connection) (r : Rests st s p c) (edges : EdgesHold st) where
-  reads_due : (side : Side) → (flags_of c.pair side).read ≡ false → gives (end_of st c side) ≡ true → is_reported st s c.pair.generation ≡ true
+  reads_due : (side : Side) → (flags_of c.pair side).read ≡ false → gives (end_there st c side) ≡ true → is_reported st s c.pair.generation ≡ true
   reads_due side down ready =
-      let x = open_one (end_of st c side) ready in
+      let x = open_one (end_there st c side) ready in
       grind (arith, reported st (record { slot = s; side = side; generation = c.pair.generation }) p.notes r.none, edges s p c side x.0 r.lies r.is x.1, x)
 
-  writes_due : (side : Side) → (flags_of c.pair side).write ≡ false → takes (end_of st c side) ≡ true → is_reported st s c.pair.generation ≡ true
+  writes_due : (side : Side) → (flags_of c.pair side).write ≡ false → takes (end_there st c side) ≡ true → is_reported st s c.pair.generation ≡ true
   writes_due side down ready =
-      let x = room_one (end_of st c side) ready in
+      let x = room_one (end_there st c side) ready in
       grind (arith, reported st (record { slot = s; side = side; generation = c.pair.generation }) p.notes r.none, edges s p c side x.0 r.lies r.is x.1, x)
 
-  comes_in : (d : Direction) → has_place st.limits.ring (stream_of c.pair d) ≡ true → gives (end_of st c (source d)) ≡ true → is_reported st s c.pair.generation ≡ true
+  comes_in : (d : Direction) → has_place st.limits.ring (stream_of c.pair d) ≡ true → gives (end_there st c (source d)) ≡ true → is_reported st s c.pair.generation ≡ true
   comes_in d place ready = reads_due (source d) ((r.rest d).unread (grind arith) (grind (arith, nat_tests, capacity_of c.pair s p.generation st.limits.ring d r.stands))) ready
 
-  goes_out : (d : Direction) → is_waiting (stream_of c.pair d) ≡ true → takes (end_of st c (destination d)) ≡ true → is_reported st s c.pair.generation ≡ true
+  goes_out : (d : Direction) → is_waiting (stream_of c.pair d) ≡ true → takes (end_there st c (destination d)) ≡ true → is_reported st s c.pair.generation ≡ true
   goes_out d wait ready = writes_due (destination d) ((r.rest d).waits (grind (arith, nat_tests))) ready
 
-  passes_on : (d : Direction) → is_drained (stream_of c.pair d) ≡ true → (is_joined c.pair (destination d) || takes (end_of st c (destination d))) ≡ true
+  passes_on : (d : Direction) → is_drained (stream_of c.pair d) ≡ true → (is_joined c.pair (destination d) || takes (end_there st c (destination d))) ≡ true
       → is_reported st s c.pair.generation ≡ true
   passes_on d dry next = writes_due (destination d) ((r.rest d).unasked (drained (stream_of c.pair d) dry)) (grind (arith, (r.rest d).unjoined (drained (stream_of c.pair d) dry)))
 
@@ -164,7 +164,7 @@ ComesBy m st e = st.second ≤ m
 
 -- and one that opens this connection or moves something of it does
 abbrev MovesBy : ℕ → Named → State → Event → Type 0
-MovesBy m x st e = moved_by st e ≡ Some x → st.second ≤ m
+MovesBy m x st e = connection_moved st e ≡ Some x → st.second ≤ m
 
 record LastMoved (first : State) (done : List Event) (st : State) (s : ℕ) (c : Connection) : Type 0 where
   now : c.pair.moved ≤ st.second
@@ -178,8 +178,8 @@ record TimesOk (first : State) (done : List Event) (st : State) : Type 0 where
 -- every failure so far, live and closed, is one that this names
 record FailuresOk (failed : Failure → Type 0) (st : State) : Type 0 where
   lying : (s : ℕ) (p : SlotState) (c : Connection) (fault : Fault) → slice_get st.slots s ≡ Some p → p.connection ≡ Some c → verdict c.pair ≡ Failed fault
-      → failed (failure s c.pair.generation fault)
-  closed : (i : ℕ) (p : Past) (fault : Fault) → slice_get st.past i ≡ Some p → p.verdict ≡ Failed fault → failed (failure p.slot p.generation fault)
+      → failed (failed_with s c.pair.generation fault)
+  closed : (i : ℕ) (p : Past) (fault : Fault) → slice_get st.past i ≡ Some p → p.verdict ≡ Failed fault → failed (failed_with p.slot p.generation fault)
 
 -- The connection that an event opens or moves has moved now
 
@@ -203,7 +203,7 @@ module _ {st : State} where
   holds_it h = rw (h.there, h.does, h.lies, h.is) refl
 
   moves_on : {e : Event} {q : State} → Happens st e q → (i : ℕ) (p : SlotState) (c : Connection) → slice_get q.slots i ≡ Some p → p.connection ≡ Some c
-      → moved_by st e ≡ Some (named i c.pair.generation) → st.second ≤ c.pair.moved
+      → connection_moved st e ≡ Some (named i c.pair.generation) → st.second ≤ c.pair.moved
   moves_on (Opens s g old first lies entry) i p c here lying is =
       here_now st.slots st.second s (g + 1) _ lies refl refl i p c here lying (let next : next_opened st ≡ Some (named s (g + 1)) = rw (first, entry) refl in sym next ∙ is)
   moves_on (Calls w h r m) i p c here lying is =
@@ -218,10 +218,10 @@ module _ {st : State} where
 
   -- the failures of closed connections
   closed_fails : (failed : Failure → Type 0) {e : Event} {q : State} → Happens st e q → FailuresOk failed st → (i : ℕ) (p : Past) (fault : Fault) → slice_get q.past i ≡ Some p
-      → p.verdict ≡ Failed fault → failed (failure p.slot p.generation fault)
+      → p.verdict ≡ Failed fault → failed (failed_with p.slot p.generation fault)
   closed_fails failed (Closes w h one two at as_well) ok i p fault here failing = elim (last_of st.past i _ p here) [
     | inl before ↦ ok.closed i p fault before failing
-    | inr is ↦ subst (λ (r : Past). failed (failure r.slot r.generation fault)) is (ok.lying h.s h.p h.c fault h.lies h.is (ap (λ (r : Past). r.verdict) is ∙ failing))
+    | inr is ↦ subst (λ (r : Past). failed (failed_with r.slot r.generation fault)) is (ok.lying h.s h.p h.c fault h.lies h.is (ap (λ (r : Past). r.verdict) is ∙ failing))
   ]
   closed_fails failed _ ok i p fault here failing = ok.closed i p fault here failing
 
@@ -266,7 +266,7 @@ module _ (laws : CoreLaws) (l : Limits) {st : State} (done : List Event) (ran : 
       let late : IsOverdue st.second st.limits.idle h.c.pair = (laws.overdue st.second st.limits.idle h.c.pair).exact.0 over in
       let long = late.long in
       let same = ap (λ (l : Limits). l.idle) all.times.limits in
-      let is : failure h.s h.c.pair.generation reason.Idle ≡ f = (let it = rw (holds_it h) at now in cc) in
+      let is : failed_with h.s h.c.pair.generation reason.Idle ≡ f = (let it = rw (holds_it h) at now in cc) in
       rw (← is) (record {
         before = done;
         after = [];
@@ -279,8 +279,8 @@ module _ (laws : CoreLaws) (l : Limits) {st : State} (done : List Event) (ran : 
             (λ m e by moved. let early = by moved in let before = late.before in omega arith);
       })
   known_now (Calls w h (reply.Failed kind) m) f now =
-      let it : failure_by st (event.Work w (act.Call (reply.Failed kind))) ≡ Some (failure h.s h.c.pair.generation (fault_of kind m.call)) = rw (h.there, h.does, h.lies, h.is, m.next) refl in
-      let is : failure h.s h.c.pair.generation (fault_of kind m.call) ≡ f = cc (sym it ∙ now) in
+      let it : failure_by st (event.Work w (act.Call (reply.Failed kind))) ≡ Some (failed_with h.s h.c.pair.generation (broken_by kind m.call)) = rw (h.there, h.does, h.lies, h.is, m.next) refl in
+      let is : failed_with h.s h.c.pair.generation (broken_by kind m.call) ≡ f = cc (sym it ∙ now) in
       rw (← is) (failed_now (opening l) st done _ _ ran it)
   known_now _ f now = absurd (cc)
 
@@ -313,11 +313,11 @@ module _ (laws : CoreLaws) (l : Limits) {st : State} (done : List Event) (ran : 
         let more : (f : Failure) → known (opening l) done f → known (opening l) (done ++ e ∷ []) f =
         (λ f. known_more (opening l) done (e ∷ []) f.slot f.generation f.fault) in record {
           lying = λ i p c fault here lying failing. let w = was i p here in elim (w.connection c lying) [
-            | inl b ↦ rw (b.2.generation) (⊎_elim (λ before. more (failure i b.0.pair.generation fault) (all.failures.lying i w.old b.0 fault w.there b.1 before))
-                (known_now h (failure i b.0.pair.generation fault)) (b.2.fails fault failing))
+            | inl b ↦ rw (b.2.generation) (⊎_elim (λ before. more (failed_with i b.0.pair.generation fault) (all.failures.lying i w.old b.0 fault w.there b.1 before))
+                (known_now h (failed_with i b.0.pair.generation fault)) (b.2.fails fault failing))
             | inr fresh ↦ absurd (let live = fresh.live in cc)
           ];
-          closed = λ i p fault here failing. more (failure p.slot p.generation fault) (closed_fails (known (opening l) done) h all.failures i p fault here failing);
+          closed = λ i p fault here failing. more (failed_with p.slot p.generation fault) (closed_fails (known (opening l) done) h all.failures i p fault here failing);
         }
 
 run_known : (laws : CoreLaws) (l : Limits) (st q : State) (done events : List Event) → run (opening l) done ≡ Some st → AllKnown (opening l) done st → run st events ≡ Some q

@@ -28,8 +28,8 @@ flows r k c d =
     || (is_drained (stream_of c.pair d) && (is_joined c.pair (destination d) || takes (end_at k.ends (descriptor c.ends (destination d))))))
 
 -- a connection could move: it is done or failed and to be closed, or one of its directions could move
-abbrev pub moves : ℕ → KernelState → Connection → Bool
-moves r k c = not (is_live (verdict c.pair)) || (flows r k c Up || flows r k c Down)
+abbrev pub may_move : ℕ → KernelState → Connection → Bool
+may_move r k c = not (is_live (verdict c.pair)) || (flows r k c Up || flows r k c Down)
 
 -- the name is of an end of this slot's connection of this generation
 abbrev pub is_report : ℕ → ℕ → Name → Bool
@@ -57,7 +57,7 @@ is_ticketed st s g = list_any (is_ticket s g) st.ready || (list_any (is_ticket s
 
 abbrev pub moves_if_any : ℕ → KernelState → Option Connection → Bool
 moves_if_any r k None = false
-moves_if_any r k (Some c) = moves r k c
+moves_if_any r k (Some c) = may_move r k c
 
 abbrev pub movable_at : State → Option SlotState → Bool
 movable_at st None = false

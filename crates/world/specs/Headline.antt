@@ -13,8 +13,8 @@ use Rattle.world.specs.declared.event.Event.TheVariants as event
 use Rattle.world.specs.declared.event.Act.TheVariants as act
 use Rattle.world.specs.declared.event.Polling.TheVariants as polling
 
-abbrev pub end_of : State → Connection → Side → Option Registered
-end_of st c side = end_at st.kernel.ends (descriptor c.ends side)
+abbrev pub end_there : State → Connection → Side → Option Registered
+end_there st c side = end_at st.kernel.ends (descriptor c.ends side)
 
 -- The bytes that the network gave to an end: a filter of the events
 
@@ -60,8 +60,8 @@ pub record DirectionHolds (before gave : List ℕ) (stream : Stream) (x y : EndS
 
 -- both ends of a connection in a slot are open, and `DirectionHolds` in each direction
 pub record ConnectionHolds (first st : State) (events : List Event) (s : ℕ) (c : Connection) : Type 0 where
-  pub open_ends : (side : Side) → IsSome (end_of st c side)
-  pub directions : (d : Direction) (x y : Registered) → end_of st c (source d) ≡ Some x → end_of st c (destination d) ≡ Some y
+  pub open_ends : (side : Side) → IsSome (end_there st c side)
+  pub directions : (d : Direction) (x y : Registered) → end_there st c (source d) ≡ Some x → end_there st c (destination d) ≡ Some y
       → DirectionHolds (preamble first.limits s c.pair.generation d) (given first events s c.pair.generation (source d))
       (stream_of c.pair d) x.socket y.socket
 
@@ -122,8 +122,8 @@ slot_held d = None
 abbrev pub held_by : State → ℕ → Option ℕ
 held_by st w = option_and_then (λ (k : WorkerState). slot_held k.doing) (slice_get st.workers w)
 
-abbrev pub fault_of : Kind → Call → Fault
-fault_of kind call = Broken (side_of call) (kind_of call) kind
+abbrev pub broken_by : Kind → Call → Fault
+broken_by kind call = Broken (side_of call) (kind_of call) kind
 
 -- a fault, and the slot and generation of the connection that has it
 pub record Failure : Type 0 where
@@ -131,12 +131,12 @@ pub record Failure : Type 0 where
   pub generation : ℕ
   pub fault : Fault
 
-abbrev pub failure : ℕ → ℕ → Fault → Failure
-failure s g fault = record { slot = s; generation = g; fault = fault }
+abbrev pub failed_with : ℕ → ℕ → Fault → Failure
+failed_with s g fault = record { slot = s; generation = g; fault = fault }
 
 -- the next call of the connection in slot s fails with this kind
 abbrev pub next_fails : Kind → ℕ → Connection → Option Failure
-next_fails kind s c = option_map (λ (call : Call). failure s c.pair.generation (fault_of kind call)) (next_call c.pair)
+next_fails kind s c = option_map (λ (call : Call). failed_with s c.pair.generation (broken_by kind call)) (next_call c.pair)
 
 -- the failure that an event brings: the worker's call fails in the slot that the worker holds
 abbrev pub failure_by : State → Event → Option Failure
@@ -176,14 +176,14 @@ is_movement reply.Shut = true
 is_movement r = false
 
 -- the connection that an event opens or moves
-abbrev pub moved_by : State → Event → Option Named
-moved_by st (event.Poll polling.Open) = next_opened st
-moved_by st (event.Work w (act.Call r)) = if is_movement r then held_connection st w else None
-moved_by st e = None
+abbrev pub connection_moved : State → Event → Option Named
+connection_moved st (event.Poll polling.Open) = next_opened st
+connection_moved st (event.Work w (act.Call r)) = if is_movement r then held_connection st w else None
+connection_moved st e = None
 
 -- if the event opens or moves this connection, the event comes at least `limit` seconds before the second `now`
 abbrev pub LiesBack : ℕ → ℕ → Named → State → Event → Type 0
-LiesBack now limit x st e = moved_by st e ≡ Some x → st.second + limit ≤ now
+LiesBack now limit x st e = connection_moved st e ≡ Some x → st.second + limit ≤ now
 
 -- one of the events is a worker's `Expire` of this connection, at a second that is at least the idle limit after the
 -- connection was opened and after each time that it moved
@@ -199,7 +199,7 @@ pub record ExpiredBy (first : State) (events : List Event) (x : Named) : Type 0 
 
 -- why a connection failed: one of its calls did, or it moved nothing for the idle limit
 abbrev pub FailedAfter : State → List Event → ℕ → ℕ → Fault → Type 0
-FailedAfter first events s g (Broken side call kind) = FailedBy first events (failure s g (Broken side call kind))
+FailedAfter first events s g (Broken side call kind) = FailedBy first events (failed_with s g (Broken side call kind))
 FailedAfter first events s g Idle = ExpiredBy first events (named s g)
 
 -- a connection, in a slot or closed, failed only after a failed call, or after moving nothing for the idle limit

@@ -3,7 +3,7 @@
 use Rattle.std.specs.Prelude.{ℕ, Bool, true, false, ◌||◌, nat_lt, length, Option, Some, None, slice_get}
 use Rattle.token.specs.declared.{side.Side.Side, name.Name.Name}
 use Rattle.kernel_model.specs.Replies.{needs_memory}
-use Rattle.world.specs.{declared.event.{Event.Event, Change.{Change, TheVariants.Arrive}, Polling.Polling, Act.Act}, States.{State, is_entry}, Steps.{batched, listen, network, spurious, worked}}
+use Rattle.world.specs.{declared.event.{Event.Event, Change.{Change, TheVariants.Arrive}, Polling.Polling, Act.Act}, States.{State, is_entry}, Steps.{batched, listen, network, report_spurious, worked}}
 use Rattle.token.specs.declared.name.Name.TheVariants as name
 use Rattle.world.specs.declared.event.Event.TheVariants as event
 use Rattle.world.specs.declared.event.Polling.TheVariants as polling
@@ -28,13 +28,13 @@ batch_length st = length st.batch
 abbrev pub free_length : State → ℕ
 free_length st = length st.free
 
-abbrev pub brings_bytes : Change → Bool
-brings_bytes (Arrive bytes) = true
-brings_bytes change = false
+abbrev pub change_brings_bytes : Change → Bool
+change_brings_bytes (Arrive bytes) = true
+change_brings_bytes change = false
 
 -- bytes arrive, or a report is queued
 abbrev pub network_allocates : State → ℕ → Side → Change → Bool
-network_allocates st s side change = brings_bytes change || grows queue_length st (network st s side change)
+network_allocates st s side change = change_brings_bytes change || grows queue_length st (network st s side change)
 
 -- the poller makes a connection, fills its batch, leaves a note (as every sweep does), or adds to the ready queue
 abbrev pub polling_allocates : State → Polling → Bool
@@ -56,7 +56,7 @@ act_allocates st w a = false
 abbrev pub may_allocate : State → Event → Bool
 may_allocate st (event.Tick n) = false
 may_allocate st (event.Network s side change) = network_allocates st s side change
-may_allocate st (event.Spurious who) = grows queue_length st (spurious st who)
+may_allocate st (event.Spurious who) = grows queue_length st (report_spurious st who)
 may_allocate st (event.Vanish who) = false
 may_allocate st (event.Listen l) = grows queue_length st (listen st l)
 may_allocate st (event.Poll p) = polling_allocates st p

@@ -21,5 +21,5 @@ pub record FailsAt (first st : State) (events : List Event) (i : ℕ) (cause : R
   pub fails : FailsFor st event cause
 
 -- Why a replay fails: an event fails; or, reported at index 0, there was no memory for the opening world
-abbrev pub Fails : Limits → List Event → ℕ → Refusal → Type 0
-Fails l events i cause = ((st : State) × FailsAt (opening l) st events i cause) ⊎ ((i ≡ 0) × (cause ≡ NoMemory))
+abbrev pub ReplayFails : Limits → List Event → ℕ → Refusal → Type 0
+ReplayFails l events i cause = ((st : State) × FailsAt (opening l) st events i cause) ⊎ ((i ≡ 0) × (cause ≡ NoMemory))

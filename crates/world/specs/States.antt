@@ -42,8 +42,8 @@ is_entry (Some entry) g = entry == g
 abbrev pub unused : ℕ → SlotState
 unused generation = record { generation = generation; connection = None; holder = Free; notes = [] }
 
-abbrev pub resting : WorkerState
-resting = record { doing = Idle; hand = [] }
+abbrev pub resting_worker : WorkerState
+resting_worker = record { doing = Idle; hand = [] }
 
 -- the world in which nothing has happened yet
 abbrev pub opening : Limits → State
@@ -59,6 +59,6 @@ opening l = record {
   ready = [];
   free = numbers_below l.slots;
   slots = replicate l.slots (unused l.generation);
-  workers = replicate l.workers resting;
+  workers = replicate l.workers resting_worker;
   past = [];
 }

@@ -51,11 +51,11 @@ watched_of st reported.Listener = Some watched.Listener
 watched_of st reported.Waker = Some watched.Waker
 watched_of st (reported.End s side) = option_map (λ (c : Connection). watched.End (descriptor c.ends side)) (connection_at st s)
 
-abbrev pub spurious : State → Reported → Option State
-spurious st who = option_and_then (λ (w : Watched). over_kernel st (kernel.spurious st.kernel w)) (watched_of st who)
+abbrev pub report_spurious : State → Reported → Option State
+report_spurious st who = option_and_then (λ (w : Watched). over_kernel st (kernel.spurious st.kernel w)) (watched_of st who)
 
-abbrev pub vanish : State → Reported → Option State
-vanish st who = option_and_then (λ (w : Watched). over_kernel st (kernel.vanish st.kernel w)) (watched_of st who)
+abbrev pub report_vanishes : State → Reported → Option State
+report_vanishes st who = option_and_then (λ (w : Watched). over_kernel st (kernel.vanish st.kernel w)) (watched_of st who)
 
 -- The listener
 
@@ -264,12 +264,12 @@ release st w k (Holds s left) = option_and_then
     (slice_get st.slots s)
 release st w k d = None
 
-abbrev pub expired : ℕ → ℕ → Connection → Option Connection
-expired now limit c = guard (is_overdue now limit c.pair) (record c { pair = timed_out c.pair })
+abbrev pub expired_connection : ℕ → ℕ → Connection → Option Connection
+expired_connection now limit c = guard (is_overdue now limit c.pair) (record c { pair = timed_out c.pair })
 
 abbrev pub expired_place : ℕ → ℕ → SlotState → Option SlotState
 expired_place now limit p =
-    option_and_then (λ (c : Connection). option_map (λ (d : Connection). record p { connection = Some d }) (expired now limit c))
+    option_and_then (λ (c : Connection). option_map (λ (d : Connection). record p { connection = Some d }) (expired_connection now limit c))
     p.connection
 
 -- the connection of the worker's slot fails, since it moved nothing for the idle limit and has no call to make
@@ -287,14 +287,14 @@ closed_world st w k s p c t =
       past = st.past ++ record { slot = s; generation = c.pair.generation; verdict = verdict c.pair; ends = t.told } ∷ [];
     }) s (record p { connection = None })) w k (Closed s)
 
-abbrev pub close : State → ℕ → WorkerState → Doing → Option State
-close st w k (Holds s left) = option_and_then
+abbrev pub closes_slot : State → ℕ → WorkerState → Doing → Option State
+closes_slot st w k (Holds s left) = option_and_then
     (λ (p : SlotState). option_and_then
     (λ (c : Connection). when (not (is_live (verdict c.pair)))
     (option_map (λ (t : Told KernelState Sockets). closed_world st w k s p c t) (kernel.close_both st.kernel c.ends)))
     p.connection)
     (slice_get st.slots s)
-close st w k d = None
+closes_slot st w k d = None
 
 abbrev pub retire : State → ℕ → WorkerState → Doing → Option State
 retire st w k (Closed s) = option_map
@@ -306,12 +306,12 @@ retire st w k d = None
 abbrev pub is_worn : ℕ → Bool
 is_worn g = nat_le last_generation g
 
-abbrev pub freed : List ℕ → ℕ → SlotState → List ℕ
-freed slots s p = if is_worn p.generation then slots else slots ++ s ∷ []
+abbrev pub free_after : List ℕ → ℕ → SlotState → List ℕ
+free_after slots s p = if is_worn p.generation then slots else slots ++ s ∷ []
 
 abbrev pub free : State → ℕ → WorkerState → Doing → Option State
 free st w k (Retired s) = option_map
-    (λ (p : SlotState). doing (record st { free = freed st.free s p }) w k Idle)
+    (λ (p : SlotState). doing (record st { free = free_after st.free s p }) w k Idle)
     (slice_get st.slots s)
 free st w k d = None
 
@@ -324,7 +324,7 @@ acted st w k (act.Call r) = call st w k k.doing r
 acted st w k act.Post = post st k.doing
 acted st w k act.Release = release st w k k.doing
 acted st w k act.Expire = expire st k.doing
-acted st w k act.Close = close st w k k.doing
+acted st w k act.Close = closes_slot st w k k.doing
 acted st w k act.Retire = retire st w k k.doing
 acted st w k act.Free = free st w k k.doing
 
@@ -334,8 +334,8 @@ worked st w a = of_worker st w (λ (k : WorkerState). acted st w k a)
 abbrev pub step : State → Event → Option State
 step st (event.Tick n) = tick st n
 step st (event.Network s side change) = network st s side change
-step st (event.Spurious who) = spurious st who
-step st (event.Vanish who) = vanish st who
+step st (event.Spurious who) = report_spurious st who
+step st (event.Vanish who) = report_vanishes st who
 step st (event.Listen l) = listen st l
 step st (event.Poll p) = polled st p
 step st (event.Work w a) = worked st w a

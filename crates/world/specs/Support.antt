@@ -4,7 +4,7 @@ use Rattle.std.specs.Prelude.{◌≡◌, ℕ, ◌+◌, ◌==◌, Bool, true, fal
 use Rattle.token.specs.{declared.side.Side.Side, Names.EndName}
 use Rattle.kernel_model.specs.{Ends.{EndState, is_nonempty, is_readable, is_writable}, Kernel.Registered, Names.has}
 use Rattle.relay_core.specs.{declared.flags.Flags.Flags, Pairs.flags_of, Order.next_call}
-use Rattle.world.specs.{declared.{connection.Connection.Connection, actors.{Ticket.Ticket, Holder.TheVariants.Nobody, Doing.{Doing, TheVariants.Tries}}}, Slots.{SlotState, WorkerState, is_held}, States.State, Headline.end_of}
+use Rattle.world.specs.{declared.{connection.Connection.Connection, actors.{Ticket.Ticket, Holder.TheVariants.Nobody, Doing.{Doing, TheVariants.Tries}}}, Slots.{SlotState, WorkerState, is_held}, States.State, Headline.end_there}
 use Rattle.token.specs.declared.name.Name.TheVariants as name
 
 abbrev pub one : Bool → ℕ
@@ -58,7 +58,7 @@ pub record EndCovered (flags : Flags) (x : EndState) (reported : Bool) : Type 0 
 -- every flag of a connection that is down is covered
 abbrev pub EdgesHold : State → Type 0
 EdgesHold st = (s : ℕ) (p : SlotState) (c : Connection) (side : Side) (x : Registered)
-    → slice_get st.slots s ≡ Some p → p.connection ≡ Some c → end_of st c side ≡ Some x
+    → slice_get st.slots s ≡ Some p → p.connection ≡ Some c → end_there st c side ≡ Some x
     → EndCovered (flags_of c.pair side) x.socket (has_report st (record { slot = s; side = side; generation = c.pair.generation }) p.notes)
 
 -- what `DueHolds` depends on: tickets, rest, the table, and that no flag is down without cover

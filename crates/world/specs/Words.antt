@@ -18,9 +18,9 @@ is_free Free = true
 abbrev pub word_at : SlotState → WordState
 word_at p = record { pending = length p.notes; free = is_free p.holder; held = is_held p.holder }
 
-abbrev pub after_all : List StepKind → WordState → WordState
-after_all [] w = w
-after_all (k ∷ ks) w = after_all ks (word_after k w)
+abbrev pub word_after_kinds : List StepKind → WordState → WordState
+word_after_kinds [] w = w
+word_after_kinds (k ∷ ks) w = word_after_kinds ks (word_after k w)
 
 abbrev pub is_wake : Exchange → Bool
 is_wake (Post woke) = woke
@@ -43,27 +43,27 @@ claims (k ∷ ks) = one (is_claim k) + claims ks
 
 -- The steps that an event makes at slot s
 
-abbrev pub at_slot : ℕ → ℕ → List StepKind → List StepKind
-at_slot s t steps = if t == s then steps else []
+abbrev pub kinds_at : ℕ → ℕ → List StepKind → List StepKind
+kinds_at s t steps = if t == s then steps else []
 
 -- the slot is adopted, its old notes are thrown away, the note of the opening is posted, and the slot is released
 abbrev pub opening_steps : Option ℕ → ℕ → List StepKind
 opening_steps None s = []
-opening_steps (Some t) s = at_slot s t (adopt ∷ take ∷ post ∷ release ∷ [])
+opening_steps (Some t) s = kinds_at s t (adopt ∷ take ∷ post ∷ release ∷ [])
 
 -- a report of an end is posted if its generation is the table's
 abbrev pub delivery_steps : State → Option Name → ℕ → List StepKind
 delivery_steps st None s = []
 delivery_steps st (Some name.Listener) s = []
 delivery_steps st (Some name.Waker) s = []
-delivery_steps st (Some (name.End n)) s = if is_entry (slice_get st.table n.slot) n.generation then at_slot s n.slot (post ∷ []) else []
+delivery_steps st (Some (name.End n)) s = if is_entry (slice_get st.table n.slot) n.generation then kinds_at s n.slot (post ∷ []) else []
 
 abbrev pub act_steps : Act → Doing → ℕ → List StepKind
-act_steps act.Claim (Tries t) s = at_slot s t.slot (claim ∷ [])
-act_steps act.Take (Holds t left) s = at_slot s t (take ∷ [])
-act_steps act.Post (Holds t left) s = at_slot s t (post ∷ [])
-act_steps act.Release (Holds t left) s = at_slot s t (release ∷ [])
-act_steps act.Retire (Closed t) s = at_slot s t (retire ∷ [])
+act_steps act.Claim (Tries t) s = kinds_at s t.slot (claim ∷ [])
+act_steps act.Take (Holds t left) s = kinds_at s t (take ∷ [])
+act_steps act.Post (Holds t left) s = kinds_at s t (post ∷ [])
+act_steps act.Release (Holds t left) s = kinds_at s t (release ∷ [])
+act_steps act.Retire (Closed t) s = kinds_at s t (retire ∷ [])
 act_steps a d s = []
 
 abbrev pub worker_steps : Option WorkerState → Act → ℕ → List StepKind
@@ -73,7 +73,7 @@ worker_steps (Some k) a s = act_steps a k.doing s
 abbrev pub steps : State → Event → ℕ → List StepKind
 steps st (event.Poll polling.Open) s = opening_steps (slice_get st.free 0) s
 steps st (event.Poll polling.Deliver) s = delivery_steps st (slice_get st.batch 0) s
-steps st (event.Poll (polling.Sweep t)) s = at_slot s t (post ∷ [])
+steps st (event.Poll (polling.Sweep t)) s = kinds_at s t (post ∷ [])
 steps st (event.Work w a) s = worker_steps (slice_get st.workers w) a s
 steps st e s = []
 
@@ -82,7 +82,7 @@ steps st e s = []
 pub record WordMoves (st next : State) (e : Event) (s : ℕ) (p : SlotState) : Type 0 where
   pub place : SlotState
   pub there : slice_get next.slots s ≡ Some place
-  pub word : word_of (word_at place) ≡ word_of (after_all (steps st e s) (word_at p))
+  pub word : word_of (word_at place) ≡ word_of (word_after_kinds (steps st e s) (word_at p))
   pub tickets : tickets next s + claims (steps st e s) ≡ tickets st s + count_wakes (steps st e s) (word_at p)
 
 abbrev pub WordsMove : State → Event → State → Type 0

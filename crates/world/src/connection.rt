@@ -21,7 +21,7 @@ impl Connection {
     ghost use Rattle.std.specs.Prelude.{◌≡◌, if◌then◌else◌, IsErrOf, IsTrue};
     ghost use Rattle.relay_core.specs.{Pairs.noted, Replies.reply_of};
     ghost use Rattle.kernel_model.specs.{Outcome.{Meets, MeetsAlways}, Replies.needs_memory};
-    ghost use Rattle.world.specs.{Calls.{descriptor, OpenConnection, made, replied, called}, Steps.{may_release, expired}};
+    ghost use Rattle.world.specs.{Calls.{descriptor, OpenConnection, made, replied, called}, Steps.{may_release, expired_connection}};
 
     /// The descriptor of the end on this side.
     pub fn descriptor(&self, side: Side) -> usize
@@ -54,7 +54,7 @@ impl Connection {
     /// Fails the connection if it is live, has no call to make, and has moved nothing for `limit` seconds at the
     /// second `now`. Otherwise, and always if `limit` is 0, refuses with `NotAllowed` and changes nothing.
     pub fn expire(&mut self, now: u64, limit: u64) -> Result<(), Refusal>
-        ensures { MeetsAlways (expired now limit self.old) self.old self.new result }
+        ensures { MeetsAlways (expired_connection now limit self.old) self.old self.new result }
     {
         if self.pair.expire(now, limit) {
             Ok(())

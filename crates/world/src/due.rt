@@ -3,7 +3,7 @@
 
 ghost use Rattle.std.specs.{Prelude.◌≡◌, List.list_any, Option.option_copied};
 ghost use Rattle.relay_core.specs.{Pairs.stream_of, Order.{is_waiting, is_drained}};
-ghost use Rattle.world.specs.Due.{gives, takes, has_place, flows, moves, is_report, is_ticket, tries, has_ticket, is_reported, is_ticketed, movable, due};
+ghost use Rattle.world.specs.Due.{gives, takes, has_place, flows, may_move, is_report, is_ticket, tries, has_ticket, is_reported, is_ticketed, movable, due};
 
 use crate::actors::{Doing, Holder, Ticket};
 use crate::connection::Connection;
@@ -87,7 +87,7 @@ fn flows(ring: usize, kernel: &Kernel, connection: &Connection, direction: Direc
 }
 
 fn moves(ring: usize, kernel: &Kernel, connection: &Connection) -> bool
-    ensures { result ≡ moves ring kernel.now connection.now }
+    ensures { result ≡ may_move ring kernel.now connection.now }
 {
     !is_live(connection.pair.verdict())
         || flows(ring, kernel, connection, Direction::Up)

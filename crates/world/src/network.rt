@@ -3,7 +3,7 @@
 
 ghost use Rattle.std.specs.Prelude.{◌||◌, IsErrOf, IsTrue};
 ghost use Rattle.kernel_model.specs.{Outcome.Meets, Kernel.queues_more};
-ghost use Rattle.world.specs.{Memory.brings_bytes, Steps.change_at};
+ghost use Rattle.world.specs.{Memory.change_brings_bytes, Steps.change_at};
 
 use crate::connection::Connection;
 use crate::event::{Change, Listening, Reported};
@@ -15,7 +15,7 @@ use token::Side;
 impl World {
     ghost use Rattle.std.specs.{Prelude.{◌≡◌, IsErrOf, IsTrue}, Option.option_copied};
     ghost use Rattle.kernel_model.specs.Outcome.{Meets, MeetsAlways};
-    ghost use Rattle.world.specs.{Memory.{grows, network_allocates, queue_length}, Steps.{connection_at, tick, network, watched_of, spurious, vanish, may_accept, listen}};
+    ghost use Rattle.world.specs.{Memory.{grows, network_allocates, queue_length}, Steps.{connection_at, tick, network, watched_of, report_spurious, report_vanishes, may_accept, listen}};
 
     /// The connection in a slot.
     pub fn connection(&self, slot: usize) -> Option<&Connection>
@@ -59,8 +59,8 @@ impl World {
     }
 
     pub(crate) fn spurious(&mut self, who: Reported) -> Result<(), Refusal>
-        ensures event { Meets (spurious self.old who) self.old self.new result }
-        ensures memory { IsErrOf result Refusal.NoMemory → IsTrue (grows queue_length self.old (spurious self.old who)) }
+        ensures event { Meets (report_spurious self.old who) self.old self.new result }
+        ensures memory { IsErrOf result Refusal.NoMemory → IsTrue (grows queue_length self.old (report_spurious self.old who)) }
     {
         match self.watched(who) {
             Some(watched) => self.kernel.spurious(watched),
@@ -69,7 +69,7 @@ impl World {
     }
 
     pub(crate) fn vanish(&mut self, who: Reported) -> Result<(), Refusal>
-        ensures { MeetsAlways (vanish self.old who) self.old self.new result }
+        ensures { MeetsAlways (report_vanishes self.old who) self.old self.new result }
     {
         match self.watched(who) {
             Some(watched) => self.kernel.vanish(watched),
@@ -132,7 +132,7 @@ impl World {
 fn change_at(kernel: &mut Kernel, descriptor: usize, change: &Change) -> Result<(), Refusal>
     ensures event { Meets (change_at kernel.old descriptor change.now) kernel.old kernel.new result }
     ensures memory { IsErrOf result Refusal.NoMemory
-        → IsTrue (brings_bytes change.now || queues_more kernel.old (change_at kernel.old descriptor change.now)) }
+        → IsTrue (change_brings_bytes change.now || queues_more kernel.old (change_at kernel.old descriptor change.now)) }
 {
     match change {
         Change::Arrive(bytes) => {

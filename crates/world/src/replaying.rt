@@ -2,7 +2,7 @@
 #![tactic(auto, using(std::proofs::lemmas::Option::gets, std::proofs::lemmas::Grind::common_steps))]
 
 ghost use Rattle.std.specs.Prelude.{◌≡◌, IfOk, IfErr, Some};
-ghost use Rattle.world.specs.{States.{IsWithinLimits, opening}, Runs.{run, Fails}, Headline.{BytesAndEndsHold, ClosedHold, DueHolds, FailuresHold, ListenerHolds, Throughout, TriedOnOwn}, Support.SupportHolds};
+ghost use Rattle.world.specs.{States.{IsWithinLimits, opening}, Runs.{run, ReplayFails}, Headline.{BytesAndEndsHold, ClosedHold, DueHolds, FailuresHold, ListenerHolds, Throughout, TriedOnOwn}, Support.SupportHolds};
 
 use crate::event::Event;
 use crate::laws::rests_on_core;
@@ -41,7 +41,7 @@ pub fn replay(alloc: Global, limits: Limits, events: &[Event]) -> Result<World, 
     ensures due { IfOk result (λ world. DueHolds world) }
     ensures listener { IfOk result (λ world. ListenerHolds world) }
     ensures support { IfOk result (λ world. SupportHolds world) }
-    ensures fails { IfErr result (λ e. Fails limits events.now e.0 e.1) }
+    ensures fails { IfErr result (λ e. ReplayFails limits events.now e.0 e.1) }
 {
     rests_on_core();
     let mut world = match World::new(alloc, limits) {

@@ -27,11 +27,11 @@ impl Model for Worker {
 
 impl Worker {
     ghost use Rattle.std.specs.{Prelude.{◌≡◌, ◌⊎◌, []}, Option.option_to_list};
-    ghost use Rattle.world.specs.{States.resting, Steps.with_ticket};
+    ghost use Rattle.world.specs.{States.resting_worker, Steps.with_ticket};
 
     /// A worker with nothing to do.
     pub fn new() -> Worker
-        ensures { result ≡ resting }
+        ensures { result ≡ resting_worker }
     {
         Worker {
             doing: Doing::Idle,

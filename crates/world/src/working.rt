@@ -25,7 +25,7 @@ pub fn is_live(verdict: Verdict) -> bool
 impl World {
     ghost use Rattle.std.specs.Prelude.{◌≡◌, ◌<◌, length, slice_get, option_map, Some, IsErrOf, IsTrue};
     ghost use Rattle.kernel_model.specs.{Outcome.{Meets, MeetsAlways}, Replies.needs_memory};
-    ghost use Rattle.world.specs.{Acts.{busy, MeetsIn}, Memory.{act_allocates, grows, free_length}, Slots.WorkerState, Steps.{of_worker, claim, take, call, post, release, expire, close, retire, free, pop, worked}};
+    ghost use Rattle.world.specs.{Acts.{busy, MeetsIn}, Memory.{act_allocates, grows, free_length}, Slots.WorkerState, Steps.{of_worker, claim, take, call, post, release, expire, closes_slot, retire, free, pop, worked}};
 
     pub(crate) fn work(&mut self, worker: usize, act: Act) -> Result<(), Refusal>
         ensures { MeetsIn (act_allocates self.old worker act) (worked self.old worker act) self.old self.new result }
@@ -188,7 +188,7 @@ impl World {
 
     fn close(&mut self, worker: usize, slot: usize, left: usize) -> Result<(), Refusal>
         requires { slice_get self.old.workers worker ≡ Some (busy (Doing.Holds slot left)) }
-        ensures { Meets (close self.old worker (busy (Doing.Holds slot left)) (Doing.Holds slot left)) self.old self.new result }
+        ensures { Meets (closes_slot self.old worker (busy (Doing.Holds slot left)) (Doing.Holds slot left)) self.old self.new result }
     {
         let Some(connection) = self.connection(slot) else {
             return Err(Refusal::NotAllowed);

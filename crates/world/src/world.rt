@@ -2,7 +2,7 @@
 #![tactic(auto, using(std::proofs::lemmas::Option::gets, std::proofs::lemmas::Grind::common_steps))]
 
 ghost use Rattle.std.specs.Prelude.{◌≡◌, IfOk, replicate};
-ghost use Rattle.world.specs.States.{numbers_below, unused, resting};
+ghost use Rattle.world.specs.States.{numbers_below, unused, resting_worker};
 
 use crate::actors::Ticket;
 use crate::limits::Limits;
@@ -108,7 +108,7 @@ fn unused_slots(alloc: Global, count: usize, generation: u64) -> Result<Vec<Slot
 }
 
 fn resting_workers(alloc: Global, count: usize) -> Result<Vec<Worker>, AllocError>
-    ensures { IfOk result (λ workers. workers.items ≡ replicate count resting) }
+    ensures { IfOk result (λ workers. workers.items ≡ replicate count resting_worker) }
 {
     let mut workers = Vec::with_capacity(alloc, count)?;
     for _worker in 0..count {

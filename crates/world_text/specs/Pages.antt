@@ -27,8 +27,8 @@ pieces_text (piece ∷ []) = piece_text piece
 pieces_text (piece ∷ next ∷ pieces) = piece_text piece ++ pieces_text (next ∷ pieces)
 
 -- The text afterwards is the text before and then these bytes, unless it is lost. A lost text stays lost.
-abbrev pub Adds : Option (List ℕ) → Option (List ℕ) → List ℕ → Type 0
-Adds old new bytes = IfSome new (λ text. option_map (λ before. before ++ bytes) old ≡ Some text)
+abbrev pub AddsText : Option (List ℕ) → Option (List ℕ) → List ℕ → Type 0
+AddsText old new bytes = IfSome new (λ text. option_map (λ before. before ++ bytes) old ≡ Some text)
 
 -- How names and tickets are written.
 

@@ -1,6 +1,6 @@
 //! A text that is put together piece by piece, and is lost once memory runs out.
 ghost use Rattle.std.specs.{Prelude.{◌≡◌, [], Some, None, IfOk, string_bytes, if◌then◌else◌, flat_map}, Fmt.decimal};
-ghost use Rattle.world_text.specs.Pages.{Adds, piece_text, pieces_text, stream_text, yes_or_no};
+ghost use Rattle.world_text.specs.Pages.{AddsText, piece_text, pieces_text, stream_text, yes_or_no};
 
 use std::alloc::{AllocError, Global};
 use std::marker::Model;
@@ -60,7 +60,7 @@ impl Page {
 
     /// Adds these pieces.
     pub fn put(&mut self, pieces: &[Piece<'_>])
-        ensures { Adds self.old self.new (pieces_text pieces.now) }
+        ensures { AddsText self.old self.new (pieces_text pieces.now) }
     {
         for piece in pieces {
             if let Err(error) = self.add(piece) {
@@ -70,7 +70,7 @@ impl Page {
     }
 
     fn add(&mut self, piece: &Piece<'_>) -> Result<(), AllocError>
-        ensures { IfOk result (λ _. Adds self.old self.new (piece_text piece.now)) }
+        ensures { IfOk result (λ _. AddsText self.old self.new (piece_text piece.now)) }
     {
         match *piece {
             Piece::Bytes([]) => self.text.push_str("-"),
@@ -98,17 +98,17 @@ impl Page {
 /// What can be written as an item of a list.
 pub(crate) trait Listed {
     ghost use Rattle.std.specs.Prelude.{ℕ, List};
-    ghost use Rattle.world_text.specs.Pages.{Adds};
+    ghost use Rattle.world_text.specs.Pages.{AddsText};
 
     ghost text: { Self → List ℕ };
 
     fn put(&self, page: &mut Page)
-        ensures { Adds page.old page.new (Self.text self.now) };
+        ensures { AddsText page.old page.new (Self.text self.now) };
 }
 
 /// Adds all items of a list.
 pub(crate) fn put_all<T: Listed>(page: &mut Page, items: &[T])
-    ensures { Adds page.old page.new (flat_map T.text items.now) }
+    ensures { AddsText page.old page.new (flat_map T.text items.now) }
 {
     for item in items {
         item.put(page);
@@ -162,7 +162,7 @@ impl Listed for usize {
 
 /// Adds the rest of the line of one direction, after the sent bytes and perhaps a lead.
 pub fn put_stream<'a>(page: &mut Page, ring: &'a [u8], unread: &'a [u8], ended: bool, shut: bool)
-    ensures { Adds page.old page.new (stream_text ring.now unread.now ended shut) }
+    ensures { AddsText page.old page.new (stream_text ring.now unread.now ended shut) }
 {
     page.put(&[
         Piece::Text(" ring="),

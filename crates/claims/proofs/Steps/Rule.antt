@@ -133,7 +133,7 @@ none_more (t ∷ ts) (suc slot) = none_more ts slot
 
 -- seats that have done nothing, and the word 3
 unused_slot : (n : ℕ) → SlotRule 3 (replicate n [])
-unused_slot n = record { history = []; state = unused; reads = refl; folds = refl; mine = λ seat. sym (same_at n seat []); fair = All-replicate (Keeps blank) n [] tt }
+unused_slot n = record { history = []; state = unused_word; reads = refl; folds = refl; mine = λ seat. sym (same_at n seat []); fair = All-replicate (Keeps blank) n [] tt }
 
 nothing_posted : (n : ℕ) → sum_by posted_of (map account_of (replicate n [])) ≡ 0
 nothing_posted n = rw (map-replicate account_of n [], sum_by-replicate posted_of n blank) (omega arith)
@@ -207,7 +207,7 @@ unused_ok slots held table v marks words is = rw is (record {
 })
 
 -- a history with no exchange of any seat is empty, and leads nowhere
-no_history : (h : History) (w : WordState) → ((seat : ℕ) → by_seat seat h ≡ []) → Leads unused h w → w ≡ unused
+no_history : (h : History) (w : WordState) → ((seat : ℕ) → by_seat seat h ≡ []) → Leads unused_word h w → w ≡ unused_word
 no_history [] w none leads = sym leads
 no_history (s ∷ rest) w none leads =
     let some : s.1 ∷ by_seat s.0 rest ≡ [] = rw (eq-eqb s.0 s.0 refl) at (none s.0) in cc

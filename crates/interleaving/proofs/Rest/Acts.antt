@@ -1,11 +1,11 @@
 -- What a thread does leaves a sound state, which its own steps make lighter: each act of its program, and each call.
 pub mod Weights
 pub use Rattle.claims.specs.Words.{WordState, some_wait}
-pub use Rattle.interleaving.{proofs.Runs.{count_free, Programs.{PairCall, by_plan, chosen}}, specs.{Likeness.{Adopted, Emptied, Entered, Finds, Goes, HasClosed, HasOut, HasRetired, Holds, IsHalfOpen, IsHolder, IsSettled, Leaves, Like, Opens, Placed, Posted, Registered as IsRegistered, Rests, Stage, Stays, ThreadLike, Tries, machine_of, opened_slot}, Rest.{calls_to_come, poller_weight, program_weight, slot_weight, thread_weight, ticket_weight, weight}, Threads.{Act, Call, System, Thread, acts, again, begun, calls, ended, goes_on, heard, open_slot, plan, planned, posted, quiet, registering, released, taken_out, taking, turn, with_thread}}}
+pub use Rattle.interleaving.{proofs.Runs.{count_free, Programs.{PairCall, by_plan, chosen}}, specs.{Likeness.{Adopted, Emptied, Entered, Finds, Goes, HasClosed, HasOut, HasRetired, Holds, IsHalfOpen, IsHolder, IsSettled, Leaves, Like, Opens, Placed, Posted, Registered as IsRegistered, Rests, Stage, Stays, ThreadLike, Tries, machine_of, opened_slot}, Rest.{calls_to_come, poller_weight, program_weight, slot_weight, thread_weight, ticket_weight, weight}, Threads.{Act, Call, System, Thread, acts, again, turn_begun, calls, end_acts, then_acts, notes_heard, open_slot, plan, planned, note_posted, quiet, registering, released, taken_out, taking, turn, with_thread}}}
 pub use Rattle.relay_core.specs.Idle.{expired, is_overdue, timed_out}
 pub use Rattle.std.{proofs.{Common.{ap, drop, eq-eqb, inl, inr, leb-false, nat_le, subst, sym, ◌<◌, ◌∙◌, ◌≢◌, ◌⊎◌}, lemmas.{Bool.cases_eq, List.length-set}}, specs.Prelude.IsSome}
 pub use Rattle.token.specs.{Names.last_generation, declared.side.Side.{Side, TheVariants.{Client, Target}}}
-pub use Rattle.world.{proofs.Headline.Ends.Pairs.Holders.{Turns, Events.Lists.{at_one, kept_none, kept_some, opened_here, opened_other}}, specs.{Headline.end_of, Slots.{SlotState, WorkerState}, States.State, Steps.{connection_at, is_worn, token_of}, declared.connection.Connection.Connection}}
+pub use Rattle.world.{proofs.Headline.Ends.Pairs.Holders.{Turns, Events.Lists.{at_one, kept_none, kept_some, opened_here, opened_other}}, specs.{Headline.end_there, Slots.{SlotState, WorkerState}, States.State, Steps.{connection_at, is_worn, token_of}, declared.connection.Connection.Connection}}
 pub use Weights.*
 
 -- Which programs there are
@@ -32,9 +32,9 @@ pub data Known (st : System) (i : ℕ) (t : Thread) : List Act → Type 0 where
   Calling : (c : Connection) → IsOut st t c → (call : PairCall) → next_call c.pair ≡ Some call → Known st i t (Call ∷ [])
   Resting : Known st i t quiet
   Spending : Known st i t again
-  Ending : (c : Connection) → IsOut st t c → Known st i t ended
-  Retiring : Known st i t (drop 1 ended)
-  Giving : t.generation ≡ st.entry → Known st i t (drop 2 ended)
+  Ending : (c : Connection) → IsOut st t c → Known st i t end_acts
+  Retiring : Known st i t (drop 1 end_acts)
+  Giving : t.generation ≡ st.entry → Known st i t (drop 2 end_acts)
 
 module _ (st : System) (i : ℕ) (t : Thread) where
   known_thread : {budget : ℕ} {place : Option Connection} {p : SlotState} {k : WorkerState} {todo : List Act} → p.generation ≡ st.entry
@@ -60,7 +60,7 @@ module _ (st : System) (i : ℕ) (t : Thread) where
   known_stage free (Placed is at own) = Posting
   known_stage free (Posted is at own) = Releasing
 
-  pub known : (w : State) → Like st w → Turns w → ((c : Connection) → connection_at w 0 ≡ Some c → (side : Side) → IsSome (end_of w c side)) → slice_get st.threads i ≡ Some t
+  pub known : (w : State) → Like st w → Turns w → ((c : Connection) → connection_at w 0 ≡ Some c → (side : Side) → IsSome (end_there w c side)) → slice_get st.threads i ≡ Some t
       → Known st i t t.todo
   known w (IsSettled p workers is set) turns opens there =
       let now : Turns (machine_of st p st.entry st.tickets workers) = rw is at turns in
@@ -143,7 +143,7 @@ planned_weighs st t left c =
     by : (b : Bool) → let p = if b then timed_out c.pair else c.pair in (pair_weight p ≡ pair_weight c.pair) × (rest_weight left p ≤ rest_weight left c.pair)
     by b = let most = rest_most left c.pair in grind arith
 
-pub posted_weighs : (st : System) (g : ℕ) → slot_weight (posted st g) ≤ slot_weight st + post_weight
+pub posted_weighs : (st : System) (g : ℕ) → slot_weight (note_posted st g) ≤ slot_weight st + post_weight
 posted_weighs st g = grind (arith, length-append {A = ℕ})
 
 released_weighs : (st : System) (g : ℕ) → slot_weight (released st g) ≤ slot_weight st + ticket_weight
@@ -170,13 +170,13 @@ module _ {l : Limits} {st : System} (s : Sound l st) (i : ℕ) (t : Thread) (the
   -- the notes pay for the turn's calls and its end
   takes : (c : Connection) → t.out ≡ Some c → t.todo ≡ drop 2 turn → some_wait st.word.pending ≡ true → Fine l st true (taking st i t [] (Some c))
   takes c has is some =
-      let c' = heard st.word.pending c in
+      let c' = notes_heard st.word.pending c in
       let flags : pair_weight c'.pair ≤ pair_weight c.pair + 4 = grind arith in
       goes _ _ refl (assumption s) (λ e. refl) (not_opening t.left (expired st.second st.limits.idle c'.pair)) (λ yes. rw (is, has)
       (omega (arith, ap one some, planned_weighs st t t.left c', (rest_most t.left c'.pair).1, spent_more t.left (calls_left c'.pair) 4 (four_left c'.pair))))
 
-  gives : t.generation ≡ st.entry → t.todo ≡ drop 2 ended → (b : Bool) → is_worn t.generation ≡ b
-      → Fine l st true (with_thread (if b then st else record st { free = suc st.free }) i (goes_on t []))
+  gives : t.generation ≡ st.entry → t.todo ≡ drop 2 end_acts → (b : Bool) → is_worn t.generation ≡ b
+      → Fine l st true (with_thread (if b then st else record st { free = suc st.free }) i (then_acts t []))
   gives own is true worn = goes _ _ refl (assumption s) (λ e. refl) (λ e. cc) (λ yes. rw is (omega arith))
   gives own is false not_worn =
       let free : st.accepted ≡ true → 1 ≤ suc st.free = λ yes. omega arith in
@@ -224,7 +224,7 @@ module _ {l : Limits} {st : System} (s : Sound l st) (i : ℕ) (t : Thread) (the
       rw (is, has, a.queue, a.backlog) (omega (arith, a.lighter t.left, planned_weighs st t (t.left - 1) line.connection)))))
   calls_fine r _ is = kept_none
 
-  pub begins_fine : (most : ℕ) (tickets : List ℕ) → st.tickets ≡ tickets → t.todo ≡ [] → Kept (Fine l st (nat_le 4 most)) (begun st i most tickets)
+  pub begins_fine : (most : ℕ) (tickets : List ℕ) → st.tickets ≡ tickets → t.todo ≡ [] → Kept (Fine l st (nat_le 4 most)) (turn_begun st i most tickets)
   begins_fine most [] is rest = kept_none
   begins_fine most (g ∷ tickets) is rest =
       kept_some (goes _ _ refl (assumption s) (λ e. refl) (λ e. cc) (λ four.

@@ -2,11 +2,11 @@
 -- what a thread does, act by act, where no opening is half way. Its imports are passed on to the file above it.
 pub use Rattle.std.{proofs.{Common.{Bool, List, None, Option, Some, [], ap, append-nil, arith, drop, false, if◌then◌else◌, inl, inr, is_some, length, lt-ltb, map, nat_le, nat_lt, not, option_map, refl, replicate, slice_get, slice_set, subst, suc, sym, true, zero, ℕ, ◌&&◌, ◌++◌, ◌+◌, ◌==◌, ◌∙◌, ◌∷◌, ◌≡◌, ◌≢◌, ◌≤◌, ◌⊎◌, length-append, eqb-true, ne_eqb, ◌-◌, append_assoc, eq-eqb, leb-true}, lemmas.{Bool.{or_right, and_parts, cases_eq, Decides.nat_tests}, Option.slice_get_past, List.{map-append, length-replicate, set-set}}}, specs.{Option.is_none, Cmp.second_so, List.flat_map}}
 pub use Rattle.claims.specs.{Words.{WordState, made as exchange_made, some_wait, wakes, word_after}, declared.view.Exchange.Exchange}
-pub use Rattle.interleaving.specs.{Likeness.{Adopted, Emptied, Entered, Finds, Goes, HalfOpen, HasClosed, HasOut, HasRetired, Held, HolderLike, Holds, IsHalfOpen, IsHolder, IsSettled, Leaves, Like, Opens, OthersRest, Placed, Posted, Registered, Rests, Settled, Stage, Stays, ThreadLike, Tries, WorkerFor, WorkersFor, ahead, ends_of, exchanges_in, first_kinds, here, kinds_in, left_of, machine_of, made_all, opened_slot, posts, ticket, visible_in, visible_of}, Threads.{Accept, Act, Acts, Begin, Call, Calls, Connect, Deliver, Drop, Give, Network, Open, Poll, Post, Release, Retire, Spurious, Step, Sweep, System, Thread, Tick, Vanish, acts, again, begins, begun, calls, closed, delivered, delivers, ended, given, goes_on, heard, is_limited, is_over, open_slot, plan, planned, poller_rests, posted, put_in, quiet, registered, registering, released, rests, step, taking, watched_of, with_thread}}
+pub use Rattle.interleaving.specs.{Likeness.{Adopted, Emptied, Entered, Finds, Goes, HalfOpen, HasClosed, HasOut, HasRetired, Held, HolderLike, Holds, IsHalfOpen, IsHolder, IsSettled, Leaves, Like, Opens, OthersRest, Placed, Posted, Registered, Rests, Settled, Stage, Stays, ThreadLike, Tries, WorkerFor, WorkersFor, ahead, descriptors_of, exchanges_in, first_kinds, here, kinds_in, left_of, machine_of, made_all, opened_slot, posts, ticket, visible_in, visible_of}, Threads.{Accept, Act, Acts, Begin, Call, Calls, Connect, Deliver, Drop, Give, Network, Open, Poll, Post, Release, Retire, Spurious, Step, Sweep, System, Thread, Tick, Vanish, acts, again, begins, turn_begun, calls, system_closed, report_delivered, delivers, end_acts, slot_given, then_acts, notes_heard, limit_is_set, is_over, open_slot, plan, planned, poller_rests, note_posted, put_in, quiet, registered, registering, released, rests, step, taking, watched_by, with_thread}}
 pub use Rattle.kernel_model.specs.{Ends.is_nonempty, Kernel.KernelState, declared.{accepting.Accepting.TheVariants.{Accepted, Blocked}, both.Descriptors.Descriptors, reply.Reply.Reply}}
 pub use Rattle.relay_core.specs.{declared.call.Call.{Call as PairCall}, Order.next_call, Pairs.{PairState, is_live, verdict, fresh}, Replies.fits, Idle.{is_overdue, expired}}
 pub use Rattle.token.specs.{Names.EndName, declared.{name.Name.Name, side.Side.{Side, TheVariants.{Client, Target}}}}
-pub use Rattle.world.{proofs.Headline.Ends.Pairs.Holders.{Events.Lists.{Kept, get-set_other, get-set_same, kept_at, kept_bind, kept_guard, kept_map, kept_none, kept_some, kept_when, set_same, total_at}, Turns, facts, first_free, is_number, is_shaped, names_it, own_generation, some_more, waiting, worker_retires}, specs.{Acts.busy, Leads.lead_at, Slots.{SlotState, WorkerState, is_by_worker, is_held}, States.{State, resting as idle_worker}, Steps.{with_note, brings_ticket, may_release, is_worn, token_of}, Support.{of_slot, one, tickets, total, worker_tickets}, Words.{is_free, word_at}, declared.{actors.Holder.{Holder, TheVariants.{By, Free, Nobody}}, connection.Connection.Connection, event.{Event.Event, Change.Change, Reported.Reported}}, Calls.{descriptor, OpenConnection, called, told_of, made}}}
+pub use Rattle.world.{proofs.Headline.Ends.Pairs.Holders.{Events.Lists.{Kept, get-set_other, get-set_same, kept_at, kept_bind, kept_guard, kept_map, kept_none, kept_some, kept_when, set_same, total_at}, Turns, facts, first_free, is_number, is_shaped, names_it, own_generation, some_more, waiting, worker_retires}, specs.{Acts.busy, Leads.lead_at, Slots.{SlotState, WorkerState, is_by_worker, is_held}, States.{State, resting_worker as idle_worker}, Steps.{with_note, brings_ticket, may_release, is_worn, token_of}, Support.{of_slot, one, tickets, total, worker_tickets}, Words.{is_free, word_at}, declared.{actors.Holder.{Holder, TheVariants.{By, Free, Nobody}}, connection.Connection.Connection, event.{Event.Event, Change.Change, Reported.Reported}}, Calls.{descriptor, OpenConnection, called, told_of, made}}}
 pub use Rattle.claims.specs.Words as word
 pub use Rattle.kernel_model.specs.Kernel as kernel
 pub use Rattle.world.specs.Runs as machine_runs
@@ -39,7 +39,7 @@ pub record Follows (before own : List Exchange) (w : State) (s : Step) (next : S
   pub like : Like next world
   pub shows : (more : List Event) → shown before w (events ++ more) ≡ after_step s own (shown (ahead next world like) world more)
 
-pub settled : {st : System} {p : SlotState} {workers : List WorkerState} → st.ends ≡ ends_of p → st.word ≡ word_at p
+pub settled : {st : System} {p : SlotState} {workers : List WorkerState} → st.ends ≡ descriptors_of p → st.word ≡ word_at p
     → (is_by_worker p.holder ≡ false → st.place ≡ p.connection) → WorkersFor st.limits.budget st.place p workers st.threads
     → Settled st p workers
 settled ends word place threads = record { ends = ends; word = word; place = place; threads = threads }
@@ -64,7 +64,7 @@ beside st b = record st { second = b.second; kernel = b.kernel; flag = b.flag; a
 
 -- in both kinds of likeness
 pub record Frame (st : System) (before : List Exchange) (p : SlotState) (entry : ℕ) (tickets : List ℕ) (workers : List WorkerState) : Type 0 where
-  pub ends : st.ends ≡ ends_of p
+  pub ends : st.ends ≡ descriptors_of p
   pub like : (b : Beside) → Like (beside st b) (machine_of (beside st b) p entry tickets workers)
   pub ahead_is : (b : Beside) → ahead (beside st b) (machine_of (beside st b) p entry tickets workers) (like b) ≡ before
 
@@ -79,8 +79,8 @@ over_ends : (o : Option Connection) (side : Side) → option_map (λ (c : Connec
     ≡ option_map (λ (ends : Descriptors). watched.End (descriptor ends side)) (option_map (λ (c : Connection). c.ends) o)
 over_ends o side = grind arith
 
-same_watched : (st : System) (p : SlotState) (entry : ℕ) (tickets : List ℕ) (workers : List WorkerState) → st.ends ≡ ends_of p
-    → (who : Reported) → machine.watched_of (machine_of st p entry tickets workers) (here who) ≡ watched_of st who
+same_watched : (st : System) (p : SlotState) (entry : ℕ) (tickets : List ℕ) (workers : List WorkerState) → st.ends ≡ descriptors_of p
+    → (who : Reported) → machine.watched_of (machine_of st p entry tickets workers) (here who) ≡ watched_by st who
 same_watched st p entry tickets workers ends reported.Listener = refl
 same_watched st p entry tickets workers ends reported.Waker = refl
 same_watched st p entry tickets workers ends (reported.End s side) = rw ends (over_ends p.connection side)
@@ -128,9 +128,9 @@ module _ {st : System} {before : List Exchange} {p : SlotState} {entry : ℕ} {t
   beyond (Network side change) is = kept_bind _ _ (λ ends is. kept_map _ _ (λ q may.
       network_at side change ends q may p.connection refl (sym fr.ends ∙ is)))
   beyond Connect is = kept_map _ (kernel.connect_in st.kernel) (λ q may. alone (event.Listen listening.Connect) (λ more. rw may))
-  beyond (Spurious who) is = kept_bind _ (watched_of st who) (λ what is. kept_map _ (kernel.spurious st.kernel what) (λ q may.
+  beyond (Spurious who) is = kept_bind _ (watched_by st who) (λ what is. kept_map _ (kernel.spurious st.kernel what) (λ q may.
       alone (event.Spurious (here who)) (λ more. rw (same_watched st p entry tickets workers fr.ends who, is, may))))
-  beyond (Vanish who) is = kept_bind _ (watched_of st who) (λ what is. kept_map _ (kernel.vanish st.kernel what) (λ q may.
+  beyond (Vanish who) is = kept_bind _ (watched_by st who) (λ what is. kept_map _ (kernel.vanish st.kernel what) (λ q may.
       alone (event.Vanish (here who)) (λ more. rw (same_watched st p entry tickets workers fr.ends who, is, may))))
   beyond (Accept Accepted) is = kept_when _ _ (λ b. kept_map _ (kernel.accept st.kernel Accepted) (λ q can.
       alone (event.Listen (listening.Accept Accepted)) (λ more. rw (may b, can))))
@@ -172,11 +172,11 @@ still note held = assumption held
 -- what is so of each list that a plan may be, for the pair for which it is one, is so of the plan
 pub by_plan : (P : List Act → Type 0) (left : ℕ) (p : PairState) → (is_live (verdict p) ≡ true → next_call p ≡ None → P quiet)
     → (is_live (verdict p) ≡ true → (call : PairCall) → next_call p ≡ Some call → (left == 0) ≡ true → P again)
-    → (is_live (verdict p) ≡ true → (call : PairCall) → next_call p ≡ Some call → (left == 0) ≡ false → P (Call ∷ [])) → (is_live (verdict p) ≡ false → P ended) → P (plan left p)
+    → (is_live (verdict p) ≡ true → (call : PairCall) → next_call p ≡ Some call → (left == 0) ≡ false → P (Call ∷ [])) → (is_live (verdict p) ≡ false → P end_acts) → P (plan left p)
 by_plan P left p rests spends calls ends = go (is_live (verdict p)) (next_call p) (left == 0) refl refl refl
   where
     go : (live : Bool) (next : Option PairCall) (spent : Bool) → is_live (verdict p) ≡ live → next_call p ≡ next → (left == 0) ≡ spent
-        → P (if live then (if is_none next then quiet else (if spent then again else Call ∷ [])) else ended)
+        → P (if live then (if is_none next then quiet else (if spent then again else Call ∷ [])) else end_acts)
     go true None spent lives none over = rests lives none
     go true (Some call) true lives next over = spends lives call next over
     go true (Some call) false lives next more = calls lives call next more
@@ -244,7 +244,7 @@ module _ {st : System} {p : SlotState} {workers : List WorkerState} (set : Settl
   abbrev world : State
   world = machine_of st p st.entry st.tickets workers
 
-  settled_post : (g : ℕ) (batch : List Name) → Settled (with_batch (posted st g) batch) (with_note p g) workers
+  settled_post : (g : ℕ) (batch : List Name) → Settled (with_batch (note_posted st g) batch) (with_note p g) workers
   settled_post g batch = settled set.ends (ap (word_after word.post) set.word ∙ post_word p g) set.place (λ i t there.
       let it = set.threads i t there in
       record { worker = it.worker; there = it.there; like = noted_like g it.like })
@@ -252,7 +252,7 @@ module _ {st : System} {p : SlotState} {workers : List WorkerState} (set : Settl
   -- the machine's posts, by an event that does this
   posts_by : (s : Step) (e : Event) (g : ℕ) (batch : List Name) (b : Bool) → brings_ticket p ≡ b
       → ((more : List Event) → shown [] world (e ∷ more) ≡ after_step s (exchange_made word.post (word_at p) ∷ []) (shown [] (record (machine.posted world 0 g p) { batch = batch }) more))
-      → Follows [] (exchange_made word.post st.word ∷ []) world s (with_batch (posted st g) batch)
+      → Follows [] (exchange_made word.post st.word ∷ []) world s (with_batch (note_posted st g) batch)
   posts_by s e g batch true brings shows =
       let longer : map ticket (st.tickets ++ g ∷ []) ≡ map ticket st.tickets ++ ticket g ∷ [] = map-append ticket st.tickets (g ∷ []) in
       follow (e ∷ event.Poll polling.Put ∷ []) (with_note p g) workers (settled_post g batch)
@@ -263,7 +263,7 @@ module _ {st : System} {p : SlotState} {workers : List WorkerState} (set : Settl
   -- a report of an end
 
   abbrev Delivers : Name → List Name → Type 0
-  Delivers n rest = Follows [] (made_all (posts st (n ∷ rest)) st.word) world Deliver (record (delivered st n) { batch = rest })
+  Delivers n rest = Follows [] (made_all (posts st (n ∷ rest)) st.word) world Deliver (record (report_delivered st n) { batch = rest })
 
   delivers_end : (n : EndName) (rest : List Name) → st.batch ≡ name.End n ∷ rest → (n.slot ≡ 0) ⊎ (n.slot ≢ 0) → (b : Bool) → (st.entry == n.generation) ≡ b → Delivers (name.End n) rest
   delivers_end n rest is (inl first) true own =
@@ -281,7 +281,7 @@ module _ {st : System} {p : SlotState} {workers : List WorkerState} (set : Settl
 
   pub sweeps : Kept (Follows [] (made_all (kinds_in st Sweep) st.word) world Sweep) (step st Sweep)
   sweeps = kept_guard _ _ (λ b.
-      let parts = and_parts (is_limited st) (nat_lt 0 st.entry) (second_so (poller_rests st) _ b) in
+      let parts = and_parts (limit_is_set st) (nat_lt 0 st.entry) (second_so (poller_rests st) _ b) in
       posts_by Sweep (event.Poll (polling.Sweep 0)) st.entry st.batch (brings_ticket p) refl (λ more. rw (parts.0, parts.1)))
 
 pub some_there : {X : Type 0} (o : Option X) → is_some o ≡ true → (x : X) × (o ≡ Some x)
@@ -315,10 +315,10 @@ limited : (st : System) (p : SlotState) (c : Connection) (workers : List WorkerS
 limited st p c workers i left had true over more = rw (had, over)
 limited st p c workers i left had false over more = rw over
 
-heard_as : (c : Connection) (notes : List ℕ) → machine.heard c notes ≡ heard (length notes) c
+heard_as : (c : Connection) (notes : List ℕ) → machine.heard c notes ≡ notes_heard (length notes) c
 heard_as c notes = rw (some_notes notes) refl
 
-same_ends : (notes : ℕ) (c : Connection) → (heard notes c).ends ≡ c.ends
+same_ends : (notes : ℕ) (c : Connection) → (notes_heard notes c).ends ≡ c.ends
 same_ends notes c = grind arith
 
 all_keep_ends : (now : ℕ) (l : OpenConnection) (r : Reply) → Kept (λ (line : OpenConnection). line.connection.ends ≡ l.connection.ends) (called now l r)
@@ -386,7 +386,7 @@ module _ (st : System) (p : SlotState) (workers : List WorkerState) (set : Settl
   -- it begins a turn with the oldest ticket, or an opening
 
   begins_with : k ≡ idle_worker → (most : ℕ) → most ≤ st.limits.budget → (tickets : List ℕ) → st.tickets ≡ tickets
-      → Kept (Follows [] [] w (Begin i most)) (begun st i most tickets)
+      → Kept (Follows [] [] w (Begin i most)) (turn_begun st i most tickets)
   begins_with is most within [] tickets = kept_none
   begins_with is most within (g ∷ rest) tickets = kept_some
       (follow (event.Work i act.Pop ∷ []) p (slice_set workers i (busy (doing.Tries (ticket g))))
@@ -398,7 +398,7 @@ module _ (st : System) (p : SlotState) (workers : List WorkerState) (set : Settl
       let parts = and_parts _ _ r in
       begins_with (rests_like like parts.0) most (leb-true _ _ parts.1) st.tickets refl)
 
-  pub begins_opening : i ≡ 0 → ThreadLike st.limits.budget st.place p i t k t.todo → rests t ≡ true → Follows [] [] w Open (with_thread st i (goes_on t open_slot))
+  pub begins_opening : i ≡ 0 → ThreadLike st.limits.budget st.place p i t k t.todo → rests t ≡ true → Follows [] [] w Open (with_thread st i (then_acts t open_slot))
   begins_opening first like r = follow [] p workers
       (settled set.ends set.word set.place (goes (λ j u v other like. like) (Opens first (rests_like like r))))
       (λ more. refl)
@@ -421,13 +421,13 @@ module _ (st : System) (p : SlotState) (workers : List WorkerState) (set : Settl
     -- a release
 
     released_like : st.place ≡ Some c → (tickets : List ℕ)
-        → Settled (with_thread (record st { word = word_after word.release st.word; tickets = tickets }) i (goes_on t [])) (record p { holder = Nobody })
+        → Settled (with_thread (record st { word = word_after word.release st.word; tickets = tickets }) i (then_acts t [])) (record p { holder = Nobody })
         (slice_set workers i idle_worker)
     released_like at tickets = settled set.ends (rw (set.word, held.holder) refl) (λ yes. at ∙ sym held.there)
         (both_go (others held.holder refl) (Rests refl))
 
     releases : st.place ≡ Some c → (b : Bool) → is_nonempty p.notes ≡ b → may_release c b ≡ true
-        → Acted (exchange_made word.release st.word ∷ []) (with_thread (released st t.generation) i (goes_on t []))
+        → Acted (exchange_made word.release st.word ∷ []) (with_thread (released st t.generation) i (then_acts t []))
     releases at true some may =
         let wait : some_wait st.word.pending ≡ true = rw set.word (some_notes p.notes ∙ some) in
         let tickets : List ℕ = st.tickets ++ t.generation ∷ [] in
@@ -441,7 +441,7 @@ module _ (st : System) (p : SlotState) (workers : List WorkerState) (set : Settl
         (λ es. rw (had, is, held.there, some, may, some_notes p.notes ∙ some)))
 
     -- the connection is closed
-    closes : st.place ≡ None → is_live (verdict c.pair) ≡ false → Kept (Acted []) (closed st i t (Retire ∷ Give ∷ []) c)
+    closes : st.place ≡ None → is_live (verdict c.pair) ≡ false → Kept (Acted []) (system_closed st i t (Retire ∷ Give ∷ []) c)
     closes at over = kept_map _ _ (λ told may.
         follow (event.Work i act.Close ∷ []) (record p { connection = None }) (slice_set workers i (busy (doing.Closed 0)))
         (settled refl set.word not_nobody (both_go (others held.holder refl) (HasClosed holds_on at refl))) (λ es. rw (had, is, held.there, over, may)))
@@ -456,7 +456,7 @@ module _ (st : System) (p : SlotState) (workers : List WorkerState) (set : Settl
         (λ es. refl)))
     -- it takes the notes
     holder_acts turns (HasOut at out least all some) = rw out (
-        let heard_now = heard st.word.pending c in
+        let heard_now = notes_heard st.word.pending c in
         let e = held_to_limit st heard_now in
         let b = is_overdue st.second st.limits.idle heard_now.pair in
         let count : length p.notes ≡ st.word.pending = rw set.word refl in
@@ -502,12 +502,12 @@ module _ (st : System) (p : SlotState) (workers : List WorkerState) (set : Settl
 
   -- the slot is given, or lost where its generations are used up
   gives_to : p.generation ≡ t.generation → k ≡ busy (doing.Retired 0) → (free : ℕ) → machine.step w (event.Work i act.Free)
-      ≡ Some (machine_of (with_thread (record st { free = free }) i (goes_on t [])) p st.entry st.tickets (slice_set workers i idle_worker))
-      → Acted [] (with_thread (record st { free = free }) i (goes_on t []))
+      ≡ Some (machine_of (with_thread (record st { free = free }) i (then_acts t [])) p st.entry st.tickets (slice_set workers i idle_worker))
+      → Acted [] (with_thread (record st { free = free }) i (then_acts t []))
   gives_to own is free can = follow (event.Work i act.Free ∷ []) p (slice_set workers i idle_worker)
       (settled set.ends set.word set.place (both_go (λ j u v other like. like) (Rests refl))) (λ more. rw (can, had))
 
-  gives : p.generation ≡ t.generation → k ≡ busy (doing.Retired 0) → (b : Bool) → is_worn t.generation ≡ b → Acted [] (with_thread (given st t.generation) i (goes_on t []))
+  gives : p.generation ≡ t.generation → k ≡ busy (doing.Retired 0) → (b : Bool) → is_worn t.generation ≡ b → Acted [] (with_thread (slot_given st t.generation) i (then_acts t []))
   gives own is true worn = rw worn (gives_to own is st.free (rw (had, is, own, worn)))
   gives own is false worn = rw worn (gives_to own is (suc st.free) (rw (had, is, own, worn, one_more st.free)))
 

@@ -1,6 +1,6 @@
 -- What a step of a server is at each slot, and what stays true by it.
 pub mod Deeds
-pub use Rattle.interleaving.specs.{Slots.{Begin, Deed, Deliver, Front, Many, Of, Open, Report, Sees, Server, Step, Taken, Ticket, are_queued, besides, deed, delivering, first_of, in_hand, is_listener, makes, names_at, one_slot, rank, rank_at, rests, set, slot_of, steps_at, suits, tickets_at, written}, Threads.rests_at}
+pub use Rattle.interleaving.specs.{Slots.{Begin, Deed, Deliver, Front, Many, Of, Open, Report, Sees, Server, Step, Taken, Ticket, are_queued, besides, deed, delivering, first_ticket, in_hand, is_listener, makes, names_at, one_slot, rank, rank_at, thread_rests, set_to, slot_of, steps_at, suits, tickets_at, written}, Threads.rests_at}
 pub use Rattle.kernel_model.specs.Names.{are_among, are_distinct}
 pub use Rattle.readiness.proofs.Runs.{mapped}
 pub use Rattle.token.specs.declared.name.Name.{Name}
@@ -11,10 +11,10 @@ pub use Rattle.interleaving.specs.Threads as alone
 
 -- Functions with one value set
 
-pub set_here : {X : Type 0} (f : ℕ → X) (i : ℕ) (x : X) → set f i x i ≡ x
+pub set_here : {X : Type 0} (f : ℕ → X) (i : ℕ) (x : X) → set_to f i x i ≡ x
 set_here f i x = rw (eq-eqb _ _ refl) refl
 
-pub set_there : {X : Type 0} (f : ℕ → X) (i j : ℕ) (x : X) → j ≢ i → set f i x j ≡ f j
+pub set_there : {X : Type 0} (f : ℕ → X) (i j : ℕ) (x : X) → j ≢ i → set_to f i x j ≡ f j
 set_there f i j x other = rw (ne_eqb _ _ other) refl
 
 -- Views
@@ -62,19 +62,19 @@ pub record Stood (test : Ticket → Bool) (ts : List Ticket) (c : Taken) : Type 
   pub rest : c.rest ≡ before ++ after
   pub passes : test c.ticket ≡ true
 
-pub stood : (test : Ticket → Bool) (ts : List Ticket) (c : Taken) → first_of test ts ≡ Some c → Stood test ts c
+pub stood : (test : Ticket → Bool) (ts : List Ticket) (c : Taken) → first_ticket test ts ≡ Some c → Stood test ts c
 stood test [] c is = cc
 stood test (t ∷ ts) c is = by (test t) refl is (λ d there. stood test ts d there)
   where
     by : (b : Bool) → test t ≡ b → (if b then Some (record { ticket = t; rest = ts })
-        else option_map (λ (d : Taken). record { ticket = d.ticket; rest = t ∷ d.rest }) (first_of test ts)) ≡ Some c
-        → ((d : Taken) → first_of test ts ≡ Some d → Stood test ts d) → Stood test (t ∷ ts) c
+        else option_map (λ (d : Taken). record { ticket = d.ticket; rest = t ∷ d.rest }) (first_ticket test ts)) ≡ Some c
+        → ((d : Taken) → first_ticket test ts ≡ Some d → Stood test ts d) → Stood test (t ∷ ts) c
     by true passes is lower = rw (sym (same_Some _ _ is)) (record { before = []; after = ts; whole = refl; rest = refl; passes = passes })
     by false fails is lower = mapped _ _ _ is (λ d there same. let h = lower d there in let more = λ (xs : List Ticket). t ∷ xs in
         rw same (record { before = t ∷ h.before; after = h.after; whole = ap more h.whole; rest = ap more h.rest; passes = h.passes }))
 
 -- of another slot
-pub taken_there : (test : Ticket → Bool) (ts : List Ticket) (c : Taken) → first_of test ts ≡ Some c
+pub taken_there : (test : Ticket → Bool) (ts : List Ticket) (c : Taken) → first_ticket test ts ≡ Some c
     → (s : ℕ) → s ≢ c.ticket.slot → tickets_at s c.rest ≡ tickets_at s ts
 taken_there test ts c is s other =
     let it = stood test ts c is in
@@ -87,7 +87,7 @@ pub record Alone (s : ℕ) (ts : List Ticket) (c : Taken) : Type 0 where
   pub whole : tickets_at s ts ≡ c.ticket.generation ∷ []
   pub rest : tickets_at s c.rest ≡ []
 
-pub taken_here : (test : Ticket → Bool) (ts : List Ticket) (c : Taken) → first_of test ts ≡ Some c → (s : ℕ) → c.ticket.slot ≡ s → length (tickets_at s ts) ≤ 1 → Alone s ts c
+pub taken_here : (test : Ticket → Bool) (ts : List Ticket) (c : Taken) → first_ticket test ts ≡ Some c → (s : ℕ) → c.ticket.slot ≡ s → length (tickets_at s ts) ≤ 1 → Alone s ts c
 taken_here test ts c is s own most =
     let it = stood test ts c is in
     let before = tickets_at s it.before in
@@ -177,14 +177,14 @@ pub record Next (m : Many) (x : Step) (n : Many) : Type 0 where
 
 -- Fronts
 
-pub at_each : (P : ℕ → Front → Type 0) (f : ℕ → Front) (p : ℕ) (new : Front) (i : ℕ) → P i (f i) → (i ≡ p → P p new) → P i (set f p new i)
+pub at_each : (P : ℕ → Front → Type 0) (f : ℕ → Front) (p : ℕ) (new : Front) (i : ℕ) → P i (f i) → (i ≡ p → P p new) → P i (set_to f p new i)
 at_each P f p new i all one = elim (cases_eq i p) [
   | inl e ↦ rw (e, set_here f p new) (one e)
   | inr other ↦ rw (set_there f p i new other) all
 ]
 
 -- a front's batch is in the view of its poller's slots alone
-pub same_names : (f : ℕ → Front) (p : ℕ) (new : Front) (s i : ℕ) → (i ≡ p → names_at s new.batch ≡ names_at s (f p).batch) → names_at s (set f p new i).batch ≡ names_at s (f i).batch
+pub same_names : (f : ℕ → Front) (p : ℕ) (new : Front) (s i : ℕ) → (i ≡ p → names_at s new.batch ≡ names_at s (f p).batch) → names_at s (set_to f p new i).batch ≡ names_at s (f i).batch
 same_names f p new s i same = at_each (λ j g. names_at s g.batch ≡ names_at s (f j).batch) f p new i refl same
 
 -- A deed
@@ -193,7 +193,7 @@ module _ (m : Many) (x : Step) (d : Deed) (n : Many) (q : System) where
   -- the slot has become q, and no other slot has changed
   pub record Done : Type 0 where
     pub server : n.server ≡ m.server
-    pub places : (s : ℕ) → n.places s ≡ set m.places d.slot q s
+    pub places : (s : ℕ) → n.places s ≡ set_to m.places d.slot q s
     pub names : (s : ℕ) → s ≢ d.slot → names_at s (n.fronts (m.server.owner s)).batch ≡ names_at s (m.fronts (m.server.owner s)).batch
     pub names_here : names_at d.slot (n.fronts (m.server.owner d.slot)).batch ≡ q.batch
     pub tickets : (s : ℕ) → s ≢ d.slot → tickets_at s n.tickets ≡ tickets_at s m.tickets
@@ -212,10 +212,10 @@ module _ (m : Many) (x : Step) (d : Deed) (n : Many) (q : System) where
   -- nothing has changed for the thread i; or it is at the deed's slot, where it was, or it rested where it was
   abbrev pub Stands : ℕ → Type 0
   Stands i = ((n.busy_at i ≡ m.busy_at i) × (slice_get q.threads (rank_at m d.slot i) ≡ slice_get (m.places d.slot).threads (rank_at m d.slot i)))
-      ⊎ ((n.busy_at i ≡ d.slot) × ((m.busy_at i ≡ d.slot) ⊎ (rests m i ≡ true)))
+      ⊎ ((n.busy_at i ≡ d.slot) × ((m.busy_at i ≡ d.slot) ⊎ (thread_rests m i ≡ true)))
 
   -- for each thread, if k alone has moved
-  pub moved : (k : ℕ) → n.busy_at k ≡ d.slot → ((i : ℕ) → i ≢ k → n.busy_at i ≡ m.busy_at i) → (m.busy_at k ≡ d.slot) ⊎ (rests m k ≡ true)
+  pub moved : (k : ℕ) → n.busy_at k ≡ d.slot → ((i : ℕ) → i ≢ k → n.busy_at i ≡ m.busy_at i) → (m.busy_at k ≡ d.slot) ⊎ (thread_rests m k ≡ true)
       → ((j : ℕ) → j ≢ rank_at m d.slot k → slice_get q.threads j ≡ slice_get (m.places d.slot).threads j) → (i : ℕ) → Stands i
   moved k here busy before others i = elim (cases_eq i k) [
     | inl own ↦ rw own (inr (here, before))
@@ -243,7 +243,7 @@ module _ (m : Many) (x : Step) (d : Deed) (n : Many) (q : System) where
       rests_on i s some other (inr it) (inl here) = absurd (other (here ∙ sym it.0))
       rests_on i s some other (inr it) (inr away) = rw (done.server, done.places s, set_there m.places d.slot s q away) (was (cases_eq s (m.busy_at i)) it.1)
         where
-          was : (s ≡ m.busy_at i) ⊎ (s ≢ m.busy_at i) → (m.busy_at i ≡ d.slot) ⊎ (rests m i ≡ true) → RestsAt m s i
+          was : (s ≡ m.busy_at i) ⊎ (s ≢ m.busy_at i) → (m.busy_at i ≡ d.slot) ⊎ (thread_rests m i ≡ true) → RestsAt m s i
           was (inl here) (inl at_slot) = absurd (away (here ∙ at_slot))
           was (inl here) (inr rested) = let now = second_so _ _ rested in rw here now
           was (inr never) before = apart i s some never
@@ -294,19 +294,19 @@ module _ (m : Many) (between : Between m) where
       deed_next m x d (written m d q) q (written_done m x d q left) is ran
       (moved m x d (written m d q) q i refl (λ j other. refl) (inl refl) (λ j other. left.others j (ne_eqb _ _ other))) between.apart between.fronts)
 
-  pub opens : (p s : ℕ) → (rests m p && (m.server.owner s == p && (m.fronts p).accepted)) ≡ true → Kept (Next m (Open p s)) (makes m (Open p s) (deed m (Open p s)))
+  pub opens : (p s : ℕ) → (thread_rests m p && (m.server.owner s == p && (m.fronts p).accepted)) ≡ true → Kept (Next m (Open p s)) (makes m (Open p s) (deed m (Open p s)))
   opens p s allowed =
-      let d : Deed = record { slot = s; thread = p; own = opening } in
+      let d : Deed = record { slot = s; thread = p; own = opening_at_slot } in
       let f : Front = m.fronts p in
       let new : Front = record f { accepted = false; opened = f.opened + 1 } in
-      let parts = and_parts (rests m p) _ allowed in
+      let parts = and_parts (thread_rests m p) _ allowed in
       let mine = and_parts (m.server.owner s == p) f.accepted parts.1 in
       let first : rank (m.server.owner s) p ≡ 0 = rw (eqb-true (m.server.owner s) p mine.0) (rank_first p) in
       let within : f.opened + 1 ≤ m.server.share p = rw mine.1 at (between.fronts p).share in
       by_deed (Open p s) d (λ q. besides m (Open p s) (written m d q)) (λ q ran.
       let left = leaves_opening (slot_of m s) q refl ran in
       let n : Many = besides m (Open p s) (written m d q) in
-      deed_next m (Open p s) d n q (front_done m (Open p s) d q (set m.fronts p new) (set m.busy_at p s) left
+      deed_next m (Open p s) d n q (front_done m (Open p s) d q (set_to m.fronts p new) (set_to m.busy_at p s) left
       (λ t other. same_names m.fronts p new t (m.server.owner t) (λ e. refl)) (same_names m.fronts p new s (m.server.owner s) (λ e. refl) ∙ sym left.batch))
       (λ t own e. e) ran
       (moved m (Open p s) d n q p (set_here m.busy_at p s) (λ i other. set_there m.busy_at p i s other) (inr parts.0) (λ j other. left.others j (ne_eqb _ _ (λ e. other (e ∙ sym first)))))
@@ -322,21 +322,21 @@ module _ (m : Many) (between : Between m) where
       let own = and_parts (m.server.owner s == p) (list_all (is_own m.server.owner p) rest) (rw is at (between.fronts p).own) in
       by_deed (Deliver p) d (λ q. besides m (Deliver p) (written m d q)) (λ q ran.
       let left = leaves (slot_of m s) q alone.Deliver refl refl refl ran in
-      deed_next m (Deliver p) d (besides m (Deliver p) (written m d q)) q (front_done m (Deliver p) d q (set m.fronts p new) m.busy_at left
+      deed_next m (Deliver p) d (besides m (Deliver p) (written m d q)) q (front_done m (Deliver p) d q (set_to m.fronts p new) m.busy_at left
       (λ t other. same_names m.fronts p new t (m.server.owner t) (λ e. rw (is, ne_eqb s t (λ e. other (sym e))) refl)) (here q (eqb-true _ _ own.0) left))
       (λ t own e. e ∙ ap (λ (rs : List Report). steps_at t (delivering p rs)) (sym is)) ran (λ i. inl (refl, left.others _ refl))
       between.apart (λ i. at_each (FrontHolds m.server m.backlog) m.fronts p new i (between.fronts i)
       (λ e. record { listener = rw is (rw is at (between.fronts p).listener); share = (between.fronts p).share; own = rw is own.1 })))
     where
       here : (q : System) → m.server.owner s ≡ p → Leaves (λ j. false) 1 (slot_of m s) q
-          → names_at s (set m.fronts p (record (m.fronts p) { batch = drop 1 (m.fronts p).batch }) (m.server.owner s)).batch ≡ q.batch
+          → names_at s (set_to m.fronts p (record (m.fronts p) { batch = drop 1 (m.fronts p).batch }) (m.server.owner s)).batch ≡ q.batch
       here q own left =
           let was : q.batch ≡ drop 1 (names_at s (m.fronts p).batch) = rw own at left.batch in
           let now : q.batch ≡ names_at s rest = rw (is, eq-eqb _ _ refl) at was in
           rw (own, set_here m.fronts p (record (m.fronts p) { batch = drop 1 (m.fronts p).batch }), is) (sym now)
 
   -- a turn, with the ticket c
-  pub begins : (i : ℕ) (from : Option ℕ) (most : ℕ) → rests m i ≡ true → (o : Option Taken) → first_of (suits i from) m.tickets ≡ o
+  pub begins : (i : ℕ) (from : Option ℕ) (most : ℕ) → thread_rests m i ≡ true → (o : Option Taken) → first_ticket (suits i from) m.tickets ≡ o
       → Kept (Next m (Begin i from most)) (makes m (Begin i from most) (option_map (turn_of m i most) o))
   begins i from most rested None is = kept_none
   begins i from most rested (Some c) is =
@@ -345,7 +345,7 @@ module _ (m : Many) (between : Between m) where
       let only_one : Alone s m.tickets c = taken_here _ _ _ is s refl (between.one_ticket s) in
       by_deed (Begin i from most) d (λ q. besides m (Begin i from most) (written m d q)) (λ q ran.
       let left = leaves_begin (slot_of m s) q (rank_at m s i) most ran in
-      let n : Many = record (written m d q) { tickets = c.rest; busy_at = set m.busy_at i s } in
+      let n : Many = record (written m d q) { tickets = c.rest; busy_at = set_to m.busy_at i s } in
       let none : q.tickets ≡ [] = rw only_one.whole at left.2 in
       rw is (deed_next m (Begin i from most) d n q (record {
         server = refl;

@@ -1,6 +1,6 @@
 -- What the threads do over wires that rest, act by act and call by call, and what happens there.
 pub mod Steps
-pub use Rattle.interleaving.{proofs.{Rest.Acts.{Calling, Ending, IsOut, Known, Opening}, Runs.{run_on}}, specs.{Threads.{calls, planned, registered, registering}, Wires.{Asked, Handed, Looks, Polled, Tells, Unasked, as_call, asked_by, asks, unasked}}}
+pub use Rattle.interleaving.{proofs.{Rest.Acts.{Calling, Ending, IsOut, Known, Opening}, Runs.{run_on}}, specs.{Threads.{calls, planned, registered, registering}, Wires.{NextCall, Handed, Looks, Polled, Tells, Unasked, as_call, asked_by, asks, unasked}}}
 pub use Rattle.kernel_model.specs.Replies.{bytes_read}
 pub use Rattle.readiness.proofs.Runs.{failed_reads}
 pub use Rattle.relay_core.specs.{Calls.{side_of}, Order.{next_call, offer}, Pairs.{PairState, verdict}, Replies.{after as answered, fits}, declared.call.Call.{Call as PairCall, TheVariants.{Join, Read, Shut, Write}}}
@@ -35,7 +35,7 @@ shut s i t rest c g f = with_thread (record s {
 }) i (record t { out = None; todo = rest })
 
 close_is : (s : System) (i : ℕ) (t : Thread) (rest : List Act) (c : Connection) (g : ℕ) (f : Side → EndState) → c.ends ≡ two → s.kernel.ends ≡ open_as g f
-    → alone.closed s i t rest c ≡ Some (shut s i t rest c g f)
+    → alone.system_closed s i t rest c ≡ Some (shut s i t rest c g f)
 close_is s i t rest c g f ends real = rw (ends, real) refl
 
 gone_named : (g : ℕ) (m : Name) → is_named (Some g) m ≡ true → not (same (End (token g Client)) m) ≡ true
@@ -62,7 +62,7 @@ polls_opened (Busy none few once named gone within) = Busy none few once (λ e. 
 pub when_back : {X : Type 0} (b : Bool) (o : Option X) (x : X) → when b o ≡ Some x → (b ≡ true) × (o ≡ Some x)
 when_back b o x h = grind arith
 
-module _ (w : Wired) (d : Delay) (e : List (Option Registered)) (q : List Name) (j : Joined (rim w.system) w.wires w.poll d e q) (rested : (is_none w.poll || poller_rests w.system) ≡ true) where
+module _ (w : WiredSystem) (d : Delay) (e : List (Option Registered)) (q : List Name) (j : Joined (rim w.system) w.wires w.poll d e q) (rested : (is_none w.poll || poller_rests w.system) ≡ true) where
   abbrev here : System
   here = w.system
 
@@ -71,7 +71,7 @@ module _ (w : Wired) (d : Delay) (e : List (Option Registered)) (q : List Name) 
 
   -- An act
   module _ (i : ℕ) (t : Thread) (there : slice_get here.threads i ≡ Some t) (known : Known there_now i t t.todo) (next : System) (wires : Side → Wire)
-      (new : Some (if is_none here.ends && is_some next.ends then fresh w.wires else w.wires) ≡ Some wires) where
+      (new : Some (if is_none here.ends && is_some next.ends then fresh_wires w.wires else w.wires) ≡ Some wires) where
     abbrev Acted : List Side → Bool → Type 0
     Acted sides closing = Led there_now (comes d.late sides ++ ((if closing then polls d.early w.poll else []) ++ Acts i ∷ [])) (record w { system = next; wires = wires })
         (record { late = cleared sides d.late; early = closing || d.early })
@@ -96,7 +96,7 @@ module _ (w : Wired) (d : Delay) (e : List (Option Registered)) (q : List Name) 
         let now : Told KernelState Descriptors = record { value = record here.kernel { ends = open_as g opened }; told = two } in
         let is : next ≡ registered here i t rest more g now =
         after ∙ ap (registered here i t rest more g) (rw (first, other) (open_is here.kernel g empty_here)) in
-        let new_wires : wires ≡ fresh w.wires = some_is new ∙ rw (ends, is) refl in
+        let new_wires : wires ≡ fresh_wires w.wires = some_is new ∙ rw (ends, is) refl in
         let zero_is = rw (known_opens known todo) at there in
         let busy : poller_rests here ≡ false = rw (zero_is, todo) refl in
         let idle : is_none w.poll ≡ true = (let or = rw busy at rested in grind arith) in
@@ -106,7 +106,7 @@ module _ (w : Wired) (d : Delay) (e : List (Option Registered)) (q : List Name) 
         rw (there, todo, count, a.0, one, second, first, other) (ap (λ (told : Told KernelState Descriptors). Some (registered there_now i t rest more g told)) (open_is there_now.kernel g empty)) in
         rw (is, new_wires) (led (open_as g opened) q (ap (option_and_then (λ (x : System). Some x)) does)
         (Opened opened opened refl refl refl
-        (λ side. rw (late side) (awake (opened side) (coming here.kernel.queue w.poll (End (token g side))) (fresh w.wires side) (inl refl))))
+        (λ side. rw (late side) (awake (opened side) (coming here.kernel.queue w.poll (End (token g side))) (fresh_wires w.wires side) (inl refl))))
         (record { each = λ m h. named_then g m (named.each m h) }) (idle_polls w.poll idle) j.on_way)))
 
     act_closes : {o : Option ℕ} (rest : List Act) → t.todo ≡ Close ∷ rest → (c : Connection) → IsOut there_now t c → acts here i t (Close ∷ rest) ≡ Some next
@@ -160,14 +160,14 @@ made_is k c g f (Join side) r real own = rw own (called_at k g f side (λ (x : E
 made_is k c g f (Shut side) r real own = rw own (called_at k g f side (λ (x : EndState). after_call x machine.Shut r) real)
 
 -- the thread i is to make the call a
-record Makes (st : System) (i : ℕ) (a : Asked) : Type 0 where
+record Makes (st : System) (i : ℕ) (a : NextCall) : Type 0 where
   there : slice_get st.threads i ≡ Some a.thread
   rest : List Act
   todo : a.thread.todo ≡ Call ∷ rest
   out : a.thread.out ≡ Some a.connection
   next : next_call a.connection.pair ≡ Some a.asks
 
-makes_back : (st : System) (i : ℕ) (a : Asked) → asks st i ≡ Some a → Makes st i a
+makes_back : (st : System) (i : ℕ) (a : NextCall) → asks st i ≡ Some a → Makes st i a
 makes_back st i a h = option_and_then_some _ _ _ h (λ t there made. by t there t.todo refl made)
   where
     by : (t : Thread) → slice_get st.threads i ≡ Some t → (todo : List Act) → t.todo ≡ todo → asked_by t todo ≡ Some a → Makes st i a
@@ -175,11 +175,11 @@ makes_back st i a h = option_and_then_some _ _ _ h (λ t there made. by t there 
         rw is (record { there = there; rest = rest; todo = todo; out = out; next = next })))
     by t there other todo h = cc
 
-abbrev its_call : Asked → machine.Call
+abbrev its_call : NextCall → machine.Call
 its_call a = as_call a.connection.pair a.asks
 
 -- the call a has this answer r of the socket e
-record Answer (e : EndState) (a : Asked) (r : Reply) : Type 0 where
+record Answer (e : EndState) (a : NextCall) (r : Reply) : Type 0 where
   value : answer.AnswerValue
   told : told_at e a.asks r ≡ Some value
   fit : fits a.connection.pair a.asks value ≡ true
@@ -187,11 +187,11 @@ record Answer (e : EndState) (a : Asked) (r : Reply) : Type 0 where
   after : after_call e (its_call a) r ≡ Some socket
 
 -- and then the thread goes on so
-abbrev goes_so : System → ℕ → Asked → KernelState → answer.AnswerValue → System
+abbrev goes_so : System → ℕ → NextCall → KernelState → answer.AnswerValue → System
 goes_so st i a k value = with_thread (record st { kernel = k }) i
     (planned st a.thread (a.thread.left - 1) (record a.connection { pair = answered st.second a.connection.pair a.asks value }))
 
-module _ (st : System) (i : ℕ) (a : Asked) (m : Makes st i a) (own : a.connection.ends ≡ two) (g : ℕ) (f : Side → EndState) (real : st.kernel.ends ≡ open_as g f) (r : Reply) where
+module _ (st : System) (i : ℕ) (a : NextCall) (m : Makes st i a) (own : a.connection.ends ≡ two) (g : ℕ) (f : Side → EndState) (real : st.kernel.ends ≡ open_as g f) (r : Reply) where
   abbrev its_end : EndState
   its_end = f (side_of a.asks)
 
@@ -219,20 +219,20 @@ module _ (st : System) (i : ℕ) (a : Asked) (m : Makes st i a) (own : a.connect
 
   answer_ran : (next : System) → step st (Calls i r) ≡ Some next → (n : Answer its_end a r) × (next ≡ goes_so st i a (then_kernel n.socket) n.value)
   answer_ran next h = mapped _ _ _ (sym call_is ∙ h) (λ line does after.
-      option_and_then_some _ _ _ (sym called_is ∙ does) (λ value told rest.
+      option_and_then_some _ _ _ (sym called_is ∙ does) (λ value word_told rest.
       let fit = when_back _ _ _ rest in
       mapped _ _ _ fit.1 (λ k made line_is.
       mapped _ _ _ made (λ x ends k_is.
-      (record { value = value; told = told; fit = fit.0; socket = x; after = ends }, after ∙ rw (line_is, k_is) refl)))))
+      (record { value = value; told = word_told; fit = fit.0; socket = x; after = ends }, after ∙ rw (line_is, k_is) refl)))))
 
 -- the bytes that a read gives are the same there: nothing is late while the wire reads
 told_same : {e x : EndState} {b : Bool} {wire : Wire} {late : List Change} → EndOk e b wire late x → (p : PairState) (call : PairCall) (r : Reply) → may_call wire.reads (as_call p call) ≡ true
     → told_at e call r ≡ told_at x call r
-told_same ok p (Read side most) (reply.Bytes n) may = rw (same_here ok (λ reads told some. cc)).1 refl
+told_same ok p (Read side most) (reply.Bytes n) may = rw (same_here ok (λ reads word_told some. cc)).1 refl
 told_same ok p call r may = refl
 
 -- a wire answers a read by itself as the socket there would
-itself : {x : EndState} (a : Asked) (call : PairCall) → a.asks ≡ call → (reads : Bool) → ((most : ℕ) → reads ≡ false → after_call x (machine.Read most) reply.Blocked ≡ Some x)
+itself : {x : EndState} (a : NextCall) (call : PairCall) → a.asks ≡ call → (reads : Bool) → ((most : ℕ) → reads ≡ false → after_call x (machine.Read most) reply.Blocked ≡ Some x)
     → may_call reads (its_call a) ≡ false → (n : Answer x a reply.Blocked) × (n.socket ≡ x) × (n.value ≡ answer.Blocked)
 itself {x} a (Read side most) is reads blocks asleep =
     (record { value = answer.Blocked; told = rw is refl; fit = rw is refl; socket = x; after = rw is (blocks most (rw is at asleep)) }, refl, refl)
@@ -246,14 +246,14 @@ closes_is before i t todo there is = ap (λ (o : Option Thread). unwrap_or (opti
 
 -- A step
 
-module _ (w : Wired) (d : Delay) (e : List (Option Registered)) (q : List Name) (j : Joined (rim w.system) w.wires w.poll d e q) (rested : (is_none w.poll || poller_rests w.system) ≡ true)
+module _ (w : WiredSystem) (d : Delay) (e : List (Option Registered)) (q : List Name) (j : Joined (rim w.system) w.wires w.poll d e q) (rested : (is_none w.poll || poller_rests w.system) ≡ true)
     (known : (i : ℕ) (t : Thread) → slice_get w.system.threads i ≡ Some t → Known (seen_as w.system e q (batch_there w.poll d.early w.system.batch)) i t t.todo)
     (free : 1 ≤ w.system.free → w.system.ends ≡ None) where
   abbrev before : System
   before = seen_as w.system e q (batch_there w.poll d.early w.system.batch)
 
   acts_next : (i : ℕ) (t : Thread) → slice_get w.system.threads i ≡ Some t → (next : System) (wires : Side → Wire)
-      → Some (if is_none w.system.ends && is_some next.ends then fresh w.wires else w.wires) ≡ Some wires
+      → Some (if is_none w.system.ends && is_some next.ends then fresh_wires w.wires else w.wires) ≡ Some wires
       → (todo : List Act) → t.todo ≡ todo → acts w.system i t todo ≡ Some next → (b : Bool) → closes w.system i ≡ b → let sides : List Side = if b then Client ∷ Target ∷ [] else [] in
       Led before (comes d.late sides ++ ((if b then polls d.early w.poll else []) ++ Acts i ∷ [])) (record w { system = next; wires = wires })
       (record { late = cleared sides d.late; early = b || d.early })
@@ -266,20 +266,20 @@ module _ (w : Wired) (d : Delay) (e : List (Option Registered)) (q : List Name) 
   acts_next i t there next wires new (act ∷ rest) todo h b is =
       rw (sym is ∙ closes_is w.system i t _ there todo) (act_apart w d e q j rested i t there (known i t there) next wires new act rest todo refl h)
 
-  abbrev asking_wire : Asked → Reply → Side → Wire
-  asking_wire a r = on (side_of a.asks) (record (w.wires (side_of a.asks)) { reads = reads_after (w.wires (side_of a.asks)).reads (its_call a) r }) w.wires
+  abbrev asking_wire : NextCall → Reply → Side → Wire
+  asking_wire a r = on (side_of a.asks) (record (w.wires (side_of a.asks)) { reads = reads_then (w.wires (side_of a.asks)).reads (its_call a) r }) w.wires
 
-  abbrev failing : Reply → Asked → List Side
+  abbrev failing : Reply → NextCall → List Side
   failing r a = if is_failed r then side_of a.asks ∷ [] else []
 
-  abbrev Called_by : ℕ → Reply → Asked → System → Type 0
+  abbrev Called_by : ℕ → Reply → NextCall → System → Type 0
   Called_by i r a next = Led before (comes d.late (failing r a) ++ Calls i r ∷ []) (record w { system = next; wires = asking_wire a r }) (record d { late = cleared (failing r a) d.late })
 
   abbrev b : List Name
   b = batch_there w.poll d.early w.system.batch
 
   -- the call a of the thread i, on the connection of generation g
-  module _ (i : ℕ) (a : Asked) (m : Makes w.system i a) {g : ℕ} (f s : Side → EndState) (own : a.connection.ends ≡ two) (ends : w.system.ends ≡ Some two) (real : w.system.kernel.ends ≡ open_as g f)
+  module _ (i : ℕ) (a : NextCall) (m : Makes w.system i a) {g : ℕ} (f s : Side → EndState) (own : a.connection.ends ≡ two) (ends : w.system.ends ≡ Some two) (real : w.system.kernel.ends ≡ open_as g f)
       (as_seen : e ≡ open_as g s) (oks : (side : Side) → EndOk (f side) (coming w.system.kernel.queue w.poll (End (token g side))) (w.wires side) (d.late side) (s side))
       (named : AllNamed (Some g) w.system.kernel.queue) (busy : Polls w.system.batch d.early (Some g) w.poll) where
     abbrev side : Side
@@ -295,7 +295,7 @@ module _ (w : Wired) (d : Delay) (e : List (Option Registered)) (q : List Name) 
     answered_at (reply.Failed kind) n may =
         let r = reply.Failed kind in
         let c1 = comes_at w.system g s q b side (f side) (d.late side) ends (oks side).due in
-        let wire : Wire = record (w.wires side) { reads = reads_after (w.wires side).reads (its_call a) r } in
+        let wire : Wire = record (w.wires side) { reads = reads_then (w.wires side).reads (its_call a) r } in
         let all = changed_end g w.system.kernel.queue w.poll w.system.kernel.queue w.poll side (awake n.socket _ wire (inl (failed_reads (w.wires side).reads (its_call a) kind)))
         (λ k other some more. more) oks in
         let same = on_here side (f side) s in
@@ -306,12 +306,12 @@ module _ (w : Wired) (d : Delay) (e : List (Option Registered)) (q : List Name) 
     answered_at r n may =
         let x = answers (oks side) n.socket (its_call a) r may n.after refl in
         let all = changed_end g w.system.kernel.queue w.poll w.system.kernel.queue w.poll side x.ok (λ k other some more. more) oks in
-        let told = sym (told_same (oks side) a.connection.pair a.asks r may) ∙ n.told in
+        let word_told = sym (told_same (oks side) a.connection.pair a.asks r may) ∙ n.told in
         led (open_as g (on side x.there s)) q
-        (rw as_seen (answer_there s q r (record { value = n.value; told = told; fit = n.fit; socket = x.there; after = x.is })))
+        (rw as_seen (answer_there s q r (record { value = n.value; told = word_told; fit = n.fit; socket = x.there; after = x.is })))
         (Opened (on side n.socket f) (on side x.there s) ends refl refl (λ k. rw (on_same side d.late k) at (all k))) named busy j.on_way
 
-    blocked_at : (v : Wired) → unasked w i a ≡ Some v → Led before (Calls i reply.Blocked ∷ []) v d
+    blocked_at : (v : WiredSystem) → unasked w i a ≡ Some v → Led before (Calls i reply.Blocked ∷ []) v d
     blocked_at v h =
         let it = w.wires side in
         let gave = guarded _ _ _ h in
@@ -321,10 +321,10 @@ module _ (w : Wired) (d : Delay) (e : List (Option Registered)) (q : List Name) 
         rw gave.1 (record { there = e; queue = q; leads = rw as_seen does; joined = j })
 
   -- a connection that is out is the slot's
-  its_own : (i : ℕ) (a : Asked) → Makes w.system i a → w.system.ends ≡ Some a.connection.ends
+  its_own : (i : ℕ) (a : NextCall) → Makes w.system i a → w.system.ends ≡ Some a.connection.ends
   its_own i a m = let k = known_calls (known i a.thread m.there) m.todo in let has = k.1.out in let are = k.1.ends in cc m.out
 
-  calls_by : {o : Option ℕ} (i : ℕ) (r : Reply) (a : Asked) → Makes w.system i a → (next : System) → step w.system (Calls i r) ≡ Some next
+  calls_by : {o : Option ℕ} (i : ℕ) (r : Reply) (a : NextCall) → Makes w.system i a → (next : System) → step w.system (Calls i r) ≡ Some next
       → may_call (w.wires (side_of a.asks)).reads (its_call a) ≡ true
       → Both (rim w.system) w.wires w.poll d.late e o → AllNamed o w.system.kernel.queue → Polls w.system.batch d.early o w.poll → Called_by i r a next
   calls_by i r a m next h may (Away ends real empty late) named busy = let never = its_own i a m in cc
@@ -333,14 +333,14 @@ module _ (w : Wired) (d : Delay) (e : List (Option Registered)) (q : List Name) 
       let n = answer_ran w.system i a m own g f real r next h in
       rw n.1 (answered_at i a m f s own ends real as_seen oks named busy r n.0 may)
 
-  blocks_by : {o : Option ℕ} (i : ℕ) (a : Asked) → Makes w.system i a → (v : Wired) → unasked w i a ≡ Some v
+  blocks_by : {o : Option ℕ} (i : ℕ) (a : NextCall) → Makes w.system i a → (v : WiredSystem) → unasked w i a ≡ Some v
       → Both (rim w.system) w.wires w.poll d.late e o → AllNamed o w.system.kernel.queue → Polls w.system.batch d.early o w.poll → Led before (Calls i reply.Blocked ∷ []) v d
   blocks_by i a m v h (Away ends real empty late) named busy = let never = its_own i a m in cc
   blocks_by i a m v h (Opened {g} f s ends real as_seen oks) named busy =
       blocked_at i a m f s (let has = its_own i a m in cc) ends real as_seen oks named busy v h
 
   -- which changes come first, where this call is made
-  failing_is : (i : ℕ) (r : Reply) (a : Asked) → asks w.system i ≡ Some a → catching w (Plain (Calls i r)) ≡ failing r a
+  failing_is : (i : ℕ) (r : Reply) (a : NextCall) → asks w.system i ≡ Some a → catching w (Plain (Calls i r)) ≡ failing r a
   failing_is i (reply.Failed kind) a asking = rw asking refl
   failing_is i r a asking = refl
 
@@ -364,7 +364,7 @@ module _ (w : Wired) (d : Delay) (e : List (Option Registered)) (q : List Name) 
       stays w d e q j s next wires a (old_wires w d e q j next wires (ap (λ (r : Rim). r.ends) a.1) new)
 
   -- while it polls, the poller rests
-  abbrev pub Fit : wired.Step → Wired → Type 0
+  abbrev pub Fit : wired.Step → WiredSystem → Type 0
   Fit x v = Led before (comes d.late (catching w x) ++ happens w d x) v (delay_after w d x) × ((is_none v.poll || poller_rests v.system) ≡ true)
 
   poller_stays : (i : ℕ) (t u : Thread) (rest : List Act) → slice_get w.system.threads i ≡ Some t → t.todo ≡ Call ∷ rest → (is_none w.poll || poller_rests (with_thread w.system i u)) ≡ true
@@ -373,15 +373,15 @@ module _ (w : Wired) (d : Delay) (e : List (Option Registered)) (q : List Name) 
     | inr other ↦ rw (get-set_other w.system.threads i 0 u other) rested
   ]
 
-  told_of_poll : (p : Polling) → w.poll ≡ Some p → (v : Wired) → tells w p p.left ≡ Some v
+  told_of_poll : (p : Polling) → w.poll ≡ Some p → (v : WiredSystem) → poller_tells w p p.left ≡ Some v
       → Led before (comes d.late (catching w Tells) ++ []) v (record d { late = cleared (catching w Tells) d.late })
   told_of_poll p is v h = subst
       (λ (o : Option Polling). let sides = unwrap_or (option_map (λ (p : Polling). sides_told p p.left) o) [] in
-      Joined (rim w.system) w.wires o d e q → tells (record w { poll = o }) p p.left ≡ Some v
+      Joined (rim w.system) w.wires o d e q → poller_tells (record w { poll = o }) p p.left ≡ Some v
       → Led (seen_as w.system e q (batch_there o d.early w.system.batch)) (comes d.late sides ++ []) v (record d { late = cleared sides d.late })) (sym is)
       (λ j h. rw (append-nil (comes d.late (sides_told p p.left))) (tells_on w.system w.wires p d e q j p.left refl v h)) j h
 
-  tells_rests : (p : Polling) (left : List Name) (v : Wired) → tells w p left ≡ Some v → poller_rests w.system ≡ true → (is_none v.poll || poller_rests v.system) ≡ true
+  tells_rests : (p : Polling) (left : List Name) (v : WiredSystem) → poller_tells w p left ≡ Some v → poller_rests w.system ≡ true → (is_none v.poll || poller_rests v.system) ≡ true
   tells_rests p left v h rests = grind arith
 
   hands : (p : Polling) → w.poll ≡ Some p → poller_rests w.system ≡ true → p.left ≡ []
@@ -391,7 +391,7 @@ module _ (w : Wired) (d : Delay) (e : List (Option Registered)) (q : List Name) 
       → Led (seen_as w.system e q (batch_there o d.early w.system.batch)) (polls d.early o) (record w { system = record w.system { batch = p.names.items }; poll = None }) d) (sym is)
       (λ j. handed_on w.system w.wires p d e q j rests none) j
 
-  pub step_next : (x : wired.Step) (v : Wired) → wired.step w x ≡ Some v → Fit x v
+  pub step_next : (x : wired.Step) (v : WiredSystem) → wired.step w x ≡ Some v → Fit x v
   step_next (Plain s) v h = option_and_then_some _ _ _ h (λ next is rest.
       let a = when_back _ _ _ rest in
       mapped _ _ _ a.1 (λ wires made after. rw after (plain_next s next wires is made, a.0)))

@@ -105,7 +105,7 @@ module _ (past : History) (st : State) (s : ℕ) (side : Side) (change : Change)
   came_not : next s l.place.generation (other_side side) ≡ past s l.place.generation (other_side side)
   came_not = grind (arith, given_if st s side change s l.place.generation (other_side side), append-nil (past s l.place.generation (other_side side)))
 
-  network_keeps : (r : Registered) (t : Told EndState Bool) → end_of st c side ≡ Some r → change_of change r.socket ≡ Some t → AllOk past st
+  network_keeps : (r : Registered) (t : Told EndState Bool) → end_there st c side ≡ Some r → change_of change r.socket ≡ Some t → AllOk past st
       → AllOk next (record st {
         kernel = record st.kernel {
           ends = ends_with st c side (Some (record r { socket = t.value }));
@@ -156,7 +156,7 @@ module _ {past : History} {st : State} (all : AllOk past st) where
     each = λ i p here. better (λ g side. refl) (names_on table limits ends (λ side g. more (token_at i side g))) (all.each i p (rw slots at here));
   }
 
-  withdrawn : (s : ℕ) (side : Side) (c : Connection) (r : Registered) → Lies (slice_get st.slots s) c → end_of st c side ≡ Some r → is_quiet_end (Some r) ≡ true
+  withdrawn : (s : ℕ) (side : Side) (c : Connection) (r : Registered) → Lies (slice_get st.slots s) c → end_there st c side ≡ Some r → is_quiet_end (Some r) ≡ true
       → AllOk past (record st { kernel = record st.kernel { queue = without_name (End r.token) st.kernel.queue } })
   withdrawn s side c r l there quiet =
       let p = l.place in
@@ -282,11 +282,11 @@ module _ {past : History} {st : State} {w : ℕ} (h : Holding st w) (all : AllOk
   target_left = end_kept st.kernel.ends h.c.ends.client h.c.ends.target None (closing_ok.there Client) (closing_ok.there Target)
       (λ same. let sides = ap (λ (n : EndName). n.side) same in absurd (cc))
 
-  are_both : (one two : Registered) → end_of st h.c Client ≡ Some one → end_at (ends_with st h.c Client None) h.c.ends.target ≡ Some two
+  are_both : (one two : Registered) → end_there st h.c Client ≡ Some one → end_at (ends_with st h.c Client None) h.c.ends.target ≡ Some two
       → (one ≡ registered h.s h.p.generation Client closing_ok.ends.client) × (two ≡ registered h.s h.p.generation Target closing_ok.ends.target)
   are_both one two at as_well = (its_end closing_ok Client one at, cc target_left)
 
-  close_keeps : (one two : Registered) → end_of st h.c Client ≡ Some one → end_at (ends_with st h.c Client None) h.c.ends.target ≡ Some two → AllOk past (closed_on h one two)
+  close_keeps : (one two : Registered) → end_there st h.c Client ≡ Some one → end_at (ends_with st h.c Client None) h.c.ends.target ≡ Some two → AllOk past (closed_on h one two)
   close_keeps one two at as_well =
       let s = h.s in
       let g = h.p.generation in
@@ -350,13 +350,13 @@ ends_on laws {past} all h = renamed (λ i g side. append-nil (past i g side)) (r
 
 -- the failure that an event brings, by a call or by the idle limit
 abbrev pub cause_by : State → Event → Option Failure
-cause_by st (event.Work w act.Expire) = option_map (λ (x : Named). failure x.slot x.generation reason.Idle) (held_connection st w)
+cause_by st (event.Work w act.Expire) = option_map (λ (x : Named). failed_with x.slot x.generation reason.Idle) (held_connection st w)
 cause_by st e = failure_by st e
 
 -- a connection that was there before, and fails by this event if it did not fail already
 pub record Continues (st : State) (e : Event) (s : ℕ) (old new : Connection) : Type 0 where
   pub generation : new.pair.generation ≡ old.pair.generation
-  pub fails : (fault : Fault) → verdict new.pair ≡ Failed fault → (verdict old.pair ≡ Failed fault) ⊎ (cause_by st e ≡ Some (failure s old.pair.generation fault))
+  pub fails : (fault : Fault) → verdict new.pair ≡ Failed fault → (verdict old.pair ≡ Failed fault) ⊎ (cause_by st e ≡ Some (failed_with s old.pair.generation fault))
   pub since : old.pair.moved ≤ st.second → (old.pair.moved ≤ new.pair.moved) × (new.pair.moved ≤ st.second)
 
 -- a connection that was opened at this second, in a slot that was older
@@ -408,7 +408,7 @@ call_continues laws {st} h {r} m = record {
   fails = λ fault failed.
       let tells = (laws.failures st.second h.c.pair m.call m.value fault (record { next = m.next; fit = m.fit })).0 failed in
       inr (rw (failed_told (record { kernel = st.kernel; connection = h.c }) m.call r tells.kind (m.told ∙ ap Some tells.failed), h.there, h.does, h.lies, h.is, m.next)
-      (ap (λ (f : Fault). Some (failure h.s h.c.pair.generation f)) (sym tells.told)));
+      (ap (λ (f : Fault). Some (failed_with h.s h.c.pair.generation f)) (sym tells.told)));
   since = later_or_same (moves m.value) h.c.pair.moved st.second;
 }
 
@@ -435,7 +435,7 @@ was_in laws tables (Posts w h) i p here = one_was i p h.lies (keeps_connection h
 was_in laws tables (Releases w h may) i p here = one_was i p h.lies (keeps_connection h.lies) here
 was_in laws tables (Expires w h over) i p here = one_was i p h.lies (goes_on_in h.lies h.is (record {
   generation = refl;
-  fails = λ fault failed. inr (let is : reason.Idle ≡ fault = cc in rw (h.there, h.does, h.lies, h.is) (ap (λ (f : Fault). Some (failure h.s h.c.pair.generation f)) is));
+  fails = λ fault failed. inr (let is : reason.Idle ≡ fault = cc in rw (h.there, h.does, h.lies, h.is) (ap (λ (f : Fault). Some (failed_with h.s h.c.pair.generation f)) is));
   since = λ moved. (le_refl _, moved);
 })) here
 was_in laws tables (Closes w h one two at as_well) i p here = one_was i p h.lies (record { old = h.p; there = h.lies; older = le_refl _; connection = λ c this. absurd (cc) }) here
@@ -483,7 +483,7 @@ both_shut p done d = grind (arith, done_when)
 wholly_sent : {gave : List ℕ} {s : Stream} {x y : EndState} → DirectionOk gave s x y → s.shut ≡ true → gave ≡ y.taken
 wholly_sent {y = y} ok shut = ok.bytes ∙ rw (ok.last.empty shut, ok.read (ok.last.ended shut)) (append-nil y.taken)
 
-just_closed : {past : History} {st : State} {w : ℕ} (h : Holding st w) (all : AllOk past st) (one two : Registered) → end_of st h.c Client ≡ Some one
+just_closed : {past : History} {st : State} {w : ℕ} (h : Holding st w) (all : AllOk past st) (one two : Registered) → end_there st h.c Client ≡ Some one
     → end_at (ends_with st h.c Client None) h.c.ends.target ≡ Some two → ClosedOk (after_event past st (event.Work w act.Close)) (closed_on h one two)
     (record { slot = h.s; generation = h.c.pair.generation; verdict = verdict h.c.pair; ends = record { client = one.socket; target = two.socket } })
 just_closed {past} {st} h all one two at as_well =

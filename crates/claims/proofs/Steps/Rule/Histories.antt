@@ -1,7 +1,7 @@
 -- The history of one slot: one exchange more, and what it counts. Its imports are passed on to those that use it.
 pub use Rattle.std.{proofs.{Common.{Bool, List, [], ap, append_assoc, arith, bit_and, bit_or, false, get_or, get_or-set_other, get_or-set_same, if◌then◌else◌, length, length-set, map, refl, replicate, set, subst, suc, sym, true, zero, ℕ, ◌%◌, ◌*◌, ◌++◌, ◌+◌, ◌-◌, ◌<◌, ◌^◌, ◌∙◌, ◌∷◌, ◌≡◌, ◌≢◌, ◌≤◌}, Math.{ListN.get_or-map, Seq.map-set_same}, lemmas.{Bool.{eq-eqb, ne_eqb}, List.{append-nil, ext_get_or, get_or-replicate, get_or_default, get_or_past, length-append, length-map, length-replicate, map-append, map-set, replicate_more, Elements.{All-push, All-replicate, All-set}, Folds.sum_by-replicate, Sums.{get_or-le-sum_by, sum_by-cons, sum_by-le, sum_by-set, sum_by_push}}, Grind.get_or-set_at, Nat.{and_block, and_mask, or_block}}}, specs.{Int.Bits.or_zero_r, List.{All, sum_by}}}
 pub use Rattle.atomic_table.{proofs.Lists.{at_index, at_map, set_again, set_here}, specs.Table.{Allows, Me, Splits, keeps}}
-pub use Rattle.claims.specs.{Calls.{PostChange, ReleaseChange}, Laws.{Counts, HistoriesCount, Knows, OneHolderEach, OpensLawful, due}, Rule.{ClaimRule, History, Keeps, KeepsRule, Leads, NeedsHolder, SlotRule, by_seat, unused}, Seats.{Adds, Holds, HoldsNot, HoldsNothing, OnlyAt, SeatOk, SeatState, TableId, account_at, fresh_seat, seat_state, view_of}, Views.{account_of, accounts_of, after, after_all, blank, column, minted_by, trace_in, traces_at, unused_view}, Words.{StepKind, WordState, adopt, claim, kind_of, made, one, post, release, retire, some_wait, take, wakes, word_after, word_of}, declared.{answers.{Posted.{Posted, TheVariants.{Quiet, Wake, Worn}}, Released.{Released, TheVariants.{Quiet as ReleaseQuiet, Wake as ReleaseWakes}}}, view.{Account.Account, Exchange.{Exchange, TheVariants.{Adopted, Busy, Held, NotFree, Post, Release, Take}}, View.View}}}
+pub use Rattle.claims.specs.{Calls.{PostChange, ReleaseChange}, Laws.{Counts, HistoriesCount, Knows, OneHolderEach, OpensLawful, tickets_due}, Rule.{ClaimRule, History, Keeps, KeepsRule, Leads, NeedsHolder, SlotRule, by_seat, unused_word}, Seats.{Adds, Holds, HoldsNot, HoldsNothing, OnlyAt, SeatOk, SeatState, TableId, account_at, fresh_seat, seat_state, view_of}, Views.{account_of, accounts_of, account_with, after_all, blank, column, minted_by, trace_in, traces_at, unused_view}, Words.{StepKind, WordState, adopt, claim, step_kind, made, one, post, release, retire, some_wait, take, wakes, word_after, word_of}, declared.{answers.{Posted.{Posted, TheVariants.{Quiet, Wake, Worn}}, Released.{Released, TheVariants.{Quiet as ReleaseQuiet, Wake as ReleaseWakes}}}, view.{Account.Account, Exchange.{Exchange, TheVariants.{Adopted, Busy, Held, NotFree, Post, Release, Take}}, View.View}}}
 pub use lib.{LanesLaws.{map-replicate}, ListN.{get_elem?}}
 pub use mathlib.Core.Logic.{dite}
 pub use mathlib.Core.Option.{some}
@@ -80,7 +80,7 @@ abbrev word_state : ℕ → Bool → Bool → WordState
 word_state p f h = record { pending = p; free = f; held = h }
 
 -- a post is due one ticket more exactly where it wakes
-due-post : (p : ℕ) (f h : Bool) → one (wakes (word_state p f h)) + due (word_state p f h) ≡ due (word_state (suc p) f h)
+due-post : (p : ℕ) (f h : Bool) → one (wakes (word_state p f h)) + tickets_due (word_state p f h) ≡ tickets_due (word_state (suc p) f h)
 due-post p f true = refl
 due-post zero f false = refl
 due-post (suc p) f false = refl
@@ -93,7 +93,7 @@ module _ (accounts : List Account) (k : ℕ) (v : Account) (at : get_elem? accou
   -- a step of the seat k, from the word s to t and from the account v to w
   turned : (w : Account) {s t : WordState} → Counts s accounts
       → (t.pending + w.taken + v.posted ≡ s.pending + v.taken + w.posted) × (one w.holds + one t.free + one s.held ≡ one v.holds + one s.free + one t.held)
-      × (w.minted + v.redeemed + due s ≡ v.minted + w.redeemed + due t) × (one t.free + w.adopts + v.retires ≡ one s.free + v.adopts + w.retires)
+      × (w.minted + v.redeemed + tickets_due s ≡ v.minted + w.redeemed + tickets_due t) × (one t.free + w.adopts + v.retires ≡ one s.free + v.adopts + w.retires)
       → Knows t.pending w → ((j : ℕ) (d : Account) → j ≢ k → j < length accounts → Knows t.pending (get_or accounts j d))
       → Counts t (set accounts k w)
   turned w {s} {t} counts sums mine others =
@@ -118,7 +118,7 @@ module _ (accounts : List Account) (k : ℕ) (v : Account) (at : get_elem? accou
 
   -- a step of the kind that the seat may do keeps the rule of the slot
   step_by : (kind : StepKind) (p : ℕ) (f h : Bool) → NeedsHolder kind v → Counts (word_state p f h) accounts → one v.holds + one f ≤ one h → one h ≤ 1 → Knows p v
-      → Counts (word_after kind (word_state p f h)) (set accounts k (after (made kind (word_state p f h)) v))
+      → Counts (word_after kind (word_state p f h)) (set accounts k (account_with (made kind (word_state p f h)) v))
   step_by post p f h may counts mine most knows = turned _ counts (omega (arith, due-post p f h))
       (omega (arith, one_le v.holds), (λ e. omega (arith, ap one e, knows.1 e)))
       (λ j d other lt. let those = counts.known j d lt in (omega arith, those.1))
@@ -133,12 +133,12 @@ module _ (accounts : List Account) (k : ℕ) (v : Account) (at : get_elem? accou
   step_by adopt p true h may counts mine most knows = turned _ counts (omega arith) (omega arith, (λ e. cc)) (λ j d other. counts.known j d)
   step_by adopt p false h may counts mine most knows = turned _ counts (omega arith) knows (λ j d other. counts.known j d)
 
-  counts_kept : (kind : StepKind) (s : WordState) → NeedsHolder kind v → Counts s accounts → Counts (word_after kind s) (set accounts k (after (made kind s) v))
+  counts_kept : (kind : StepKind) (s : WordState) → NeedsHolder kind v → Counts s accounts → Counts (word_after kind s) (set accounts k (account_with (made kind s) v))
   counts_kept kind s may counts = step_by kind s.pending s.free s.held may counts (marked_held s counts) (one_le s.held) (each_at (Knows s.pending) _ _ at counts.known)
 
 -- One exchange more
 
-kind_of_made : (kind : StepKind) (p : ℕ) (f h : Bool) → kind_of (made kind (word_state p f h)) ≡ kind
+kind_of_made : (kind : StepKind) (p : ℕ) (f h : Bool) → step_kind (made kind (word_state p f h)) ≡ kind
 kind_of_made claim p f true = refl
 kind_of_made claim p f false = refl
 kind_of_made adopt p true h = refl
@@ -150,17 +150,17 @@ by_append seat [] t = refl
 by_append seat (s ∷ h) t =
     dite (ℕ_discrete s.0 seat) (λ same. rw (eq-eqb s.0 seat same, by_append seat h t)) (λ other. rw (ne_eqb s.0 seat other, by_append seat h t))
 
-leads_on : (w v : WordState) (h : History) (s : ℕ × Exchange) → Leads w h v → s.1 ≡ made (kind_of s.1) v → Leads w (h ++ s ∷ []) (word_after (kind_of s.1) v)
-leads_on w v [] s leads is = (rw leads is, ap (word_after (kind_of s.1)) leads)
-leads_on w v (x ∷ h) s leads is = (leads.0, leads_on (word_after (kind_of x.1) w) v h s leads.1 is)
+leads_on : (w v : WordState) (h : History) (s : ℕ × Exchange) → Leads w h v → s.1 ≡ made (step_kind s.1) v → Leads w (h ++ s ∷ []) (word_after (step_kind s.1) v)
+leads_on w v [] s leads is = (rw leads is, ap (word_after (step_kind s.1)) leads)
+leads_on w v (x ∷ h) s leads is = (leads.0, leads_on (word_after (step_kind x.1) w) v h s leads.1 is)
 
 pub after_both : (t u : List Exchange) (a : Account) → after_all (t ++ u) a ≡ after_all u (after_all t a)
 after_both [] u a = refl
-after_both (e ∷ t) u a = after_both t u (after e a)
+after_both (e ∷ t) u a = after_both t u (account_with e a)
 
-keeps_on : (t : List Exchange) (e : Exchange) (a : Account) → Keeps a t → NeedsHolder (kind_of e) (after_all t a) → Keeps a (t ++ e ∷ [])
+keeps_on : (t : List Exchange) (e : Exchange) (a : Account) → Keeps a t → NeedsHolder (step_kind e) (after_all t a) → Keeps a (t ++ e ∷ [])
 keeps_on [] e a fair may = (may, tt)
-keeps_on (x ∷ t) e a fair may = (fair.0, keeps_on t e (after x a) fair.1 may)
+keeps_on (x ∷ t) e a fair may = (fair.0, keeps_on t e (account_with x a) fair.1 may)
 
 -- one exchange more of the seat k, whose trace was t
 module _ (word : ℕ) (traces : List (List Exchange)) (rule : SlotRule word traces) (k : ℕ) (t : List Exchange) (at : get_elem? traces k ≡ some t) (kind : StepKind) where
@@ -179,12 +179,12 @@ module _ (word : ℕ) (traces : List (List Exchange)) (rule : SlotRule word trac
 
   pub history_on : k < length traces → NeedsHolder kind (account_of t) → SlotRule (word_of (word_after kind rule.state)) (set traces k grown)
   history_on inside may =
-      let is : kind_of last ≡ kind = kind_of_made kind rule.state.pending rule.state.free rule.state.held in
+      let is : step_kind last ≡ kind = kind_of_made kind rule.state.pending rule.state.free rule.state.held in
       record {
         history = rule.history ++ (k, last) ∷ [];
         state = word_after kind rule.state;
         reads = refl;
-        folds = rw is at (leads_on unused rule.state rule.history (k, last) rule.folds (rw is));
+        folds = rw is at (leads_on unused_word rule.state rule.history (k, last) rule.folds (rw is));
         mine = mine_on inside;
         fair = All-set (Keeps blank) traces k grown (keeps_on t last blank (each_at (Keeps blank) _ _ at rule.fair) (rw is may)) rule.fair;
       }
@@ -206,14 +206,14 @@ module _ (s : ℕ × Exchange) (rest : History) (accounts ends : List Account) w
   first_inside along = dite (dec_lt s.0 (length accounts)) (λ lt. lt)
       (λ past. let none : s.1 ∷ by_seat s.0 rest ≡ [] = rw (eq-eqb s.0 s.0 refl) at (along.among (omega arith)) in cc)
 
-  rest_along : s.0 < length accounts → (seat : ℕ) → Along (s ∷ rest) accounts ends seat → Along rest (set accounts s.0 (after s.1 now)) ends seat
+  rest_along : s.0 < length accounts → (seat : ℕ) → Along (s ∷ rest) accounts ends seat → Along rest (set accounts s.0 (account_with s.1 now)) ends seat
   rest_along inside seat along = dite (ℕ_discrete s.0 seat) (λ same. (
-      let here : get_or (set accounts s.0 (after s.1 now)) seat blank ≡ after s.1 (get_or accounts seat blank) =
-      rw (← same) (get_or-set_same accounts s.0 (after s.1 now) blank inside) in
+      let here : get_or (set accounts s.0 (account_with s.1 now)) seat blank ≡ account_with s.1 (get_or accounts seat blank) =
+      rw (← same) (get_or-set_same accounts s.0 (account_with s.1 now) blank inside) in
       let test = eq-eqb s.0 seat same in
-      record { among = λ past. absurd (omega (arith, length-set accounts s.0 (after s.1 now))); fair = rw here (rw test at along.fair).1; becomes = rw here (rw test at along.becomes) }))
+      record { among = λ past. absurd (omega (arith, length-set accounts s.0 (account_with s.1 now))); fair = rw here (rw test at along.fair).1; becomes = rw here (rw test at along.becomes) }))
       (λ other. (
-      let there = get_or-set_other accounts s.0 seat (after s.1 now) blank (λ e. other (sym e)) in
+      let there = get_or-set_other accounts s.0 seat (account_with s.1 now) blank (λ e. other (sym e)) in
       let test = ne_eqb s.0 seat other in
       record { among = rw length-set (rw test at along.among); fair = rw there (rw test at along.fair); becomes = rw there (rw test at along.becomes) }))
 
@@ -224,13 +224,13 @@ counts_along (s ∷ rest) w v accounts ends leads many along counts =
     let a = get_or accounts s.0 blank in
     let inside = first_inside s rest accounts ends (along s.0) in
     let may = (rw (eq-eqb s.0 s.0 refl) at (along s.0).fair).0 in
-    counts_along rest (word_after (kind_of s.1) w) v (set accounts s.0 (after s.1 a)) ends leads.1 (length-set accounts s.0 (after s.1 a) ∙ many)
+    counts_along rest (word_after (step_kind s.1) w) v (set accounts s.0 (account_with s.1 a)) ends leads.1 (length-set accounts s.0 (account_with s.1 a) ∙ many)
     (λ seat. rest_along s rest accounts ends inside seat (along seat))
-    (subst (λ (e : Exchange). Counts (word_after (kind_of s.1) w) (set accounts s.0 (after e a))) (sym leads.0)
-    (counts_kept accounts s.0 a (at_inside accounts s.0 blank inside) (kind_of s.1) w may counts))
+    (subst (λ (e : Exchange). Counts (word_after (step_kind s.1) w) (set accounts s.0 (account_with e a))) (sym leads.0)
+    (counts_kept accounts s.0 a (at_inside accounts s.0 blank inside) (step_kind s.1) w may counts))
 
 -- seats that have done nothing, at an unused slot
-counts_of_none : (n : ℕ) → Counts unused (replicate n blank)
+counts_of_none : (n : ℕ) → Counts unused_word (replicate n blank)
 counts_of_none n =
     let none : (f : Account → ℕ) → f blank ≡ 0 → sum_by f (replicate n blank) ≡ 0 = λ f is. (sum_by-replicate f n blank ∙ rw is (omega arith)) in
     let posted = none posted_of refl in
@@ -246,7 +246,7 @@ pub counts_of : (word : ℕ) (traces : List (List Exchange)) (rule : SlotRule wo
 counts_of word traces rule =
     let n = length traces in
     let first : List Account = replicate n blank in
-    counts_along rule.history unused rule.state first (map account_of traces) rule.folds (length-replicate n blank ∙ sym (length-map traces account_of)) (λ seat. record {
+    counts_along rule.history unused_word rule.state first (map account_of traces) rule.folds (length-replicate n blank ∙ sym (length-map traces account_of)) (λ seat. record {
       among = λ past. (rule.mine seat ∙ get_or_past traces seat [] (rw length-replicate at past));
       fair = rw (same_at n seat blank, rule.mine seat) (all_or (Keeps blank) traces [] rule.fair tt seat);
       becomes = rw (same_at n seat blank, rule.mine seat) (sym (get_or-map account_of traces seat []));

@@ -1,5 +1,5 @@
 -- What a step of `System` leaves as it is, when the accept flag is up and no client is accepted, as in a slot of a server.
-pub use Rattle.interleaving.specs.{Slots.opening, Threads.{Accept, Acts, Begin, Calls, Connect, Deliver, Drop, Open, Poll, Step, System, Thread, goes_on, open_slot, run, step}}
+pub use Rattle.interleaving.specs.{Slots.opening_at_slot, Threads.{Accept, Acts, Begin, Calls, Connect, Deliver, Drop, Open, Poll, Step, System, Thread, then_acts, open_slot, run, step}}
 pub use Rattle.kernel_model.specs.declared.accepting.Accepting.TheVariants.{Accepted}
 pub use Rattle.std.proofs.{Common.{Bool, List, None, Option, Some, [], ap, append-nil, arith, drop, eq-eqb, false, if◌then◌else◌, length, not, refl, slice_get, slice_set, suc, sym, take, true, zero, ℕ, ◌&&◌, ◌++◌, ◌+◌, ◌==◌, ◌∙◌, ◌∷◌, ◌≡◌, ◌≢◌}, Math.Seq.{take-append_seam, take-length}, lemmas.{Bool.Decides.nat_tests, Option.option_and_then_some}}
 pub use Rattle.world.{proofs.Headline.Ends.Pairs.Holders.Events.Lists.{Kept, get-set_other, get-set_same, kept_guard, kept_map, kept_none, kept_some, kept_when}, specs.declared.limits.Limits.Limits}
@@ -66,21 +66,21 @@ module _ (st q : System) where
 
 -- the opening begins
 opens : (st x y q : System) → step st Connect ≡ Some x → step x (Accept Accepted) ≡ Some y → step y Open ≡ Some q
-    → (t : Thread) × (slice_get st.threads 0 ≡ Some t) × (q.threads ≡ slice_set st.threads 0 (goes_on t open_slot)) × (q.limits ≡ st.limits) × (q.flag ≡ st.flag) × (q.batch ≡ st.batch)
+    → (t : Thread) × (slice_get st.threads 0 ≡ Some t) × (q.threads ≡ slice_set st.threads 0 (then_acts t open_slot)) × (q.limits ≡ st.limits) × (q.flag ≡ st.flag) × (q.batch ≡ st.batch)
     × (q.tickets ≡ st.tickets)
 opens st x y q first second third = grind arith
 
-registers : (st q : System) (t : Thread) → slice_get st.threads 0 ≡ Some (goes_on t open_slot) → step st (Acts 0) ≡ Some q
+registers : (st q : System) (t : Thread) → slice_get st.threads 0 ≡ Some (then_acts t open_slot) → step st (Acts 0) ≡ Some q
     → (q.limits ≡ st.limits) × (q.flag ≡ st.flag) × (q.accepted ≡ false) × (q.batch ≡ st.batch) × (q.tickets ≡ st.tickets)
 registers st q t there is = grind arith
 
-pub leaves_opening : (st q : System) → st.accepted ≡ false → run st opening ≡ Some q → Leaves (λ j. j == 0) 0 st q
-leaves_opening st q none ran = option_and_then_some (λ (x : System). run x (drop 1 opening)) (step st Connect) q ran (λ x first rest.
-    option_and_then_some (λ (y : System). run y (drop 2 opening)) (step x (Accept Accepted)) q rest (λ y second rest.
-    option_and_then_some (λ (b : System). run b (drop 3 opening)) (step y Open) q rest (λ b third last.
+pub leaves_opening : (st q : System) → st.accepted ≡ false → run st opening_at_slot ≡ Some q → Leaves (λ j. j == 0) 0 st q
+leaves_opening st q none ran = option_and_then_some (λ (x : System). run x (drop 1 opening_at_slot)) (step st Connect) q ran (λ x first rest.
+    option_and_then_some (λ (y : System). run y (drop 2 opening_at_slot)) (step x (Accept Accepted)) q rest (λ y second rest.
+    option_and_then_some (λ (b : System). run b (drop 3 opening_at_slot)) (step y Open) q rest (λ b third last.
     let o = opens st x y b first second third in
-    let there : slice_get b.threads 0 ≡ Some (goes_on o.0 open_slot) =
-    ap (λ (ts : List Thread). slice_get ts 0) o.2 ∙ get-set_same st.threads 0 o.0 (goes_on o.0 open_slot) o.1 in
+    let there : slice_get b.threads 0 ≡ Some (then_acts o.0 open_slot) =
+    ap (λ (ts : List Thread). slice_get ts 0) o.2 ∙ get-set_same st.threads 0 o.0 (then_acts o.0 open_slot) o.1 in
     let is = one_ran b q (Acts 0) last in
     let r = registers b q o.0 there is in
     record {
@@ -88,5 +88,5 @@ leaves_opening st q none ran = option_and_then_some (λ (x : System). run x (dro
       batch = r.3 ∙ o.5;
       tickets = rw (r.4, o.6) (take-length st.tickets);
       others = λ j other. others_stay b q (Acts 0) j is other ∙ (ap (λ (ts : List Thread). slice_get ts j) o.2
-          ∙ get-set_other st.threads 0 j (goes_on o.0 open_slot) (λ same. (let first = eq-eqb j 0 (sym same) in cc)));
+          ∙ get-set_other st.threads 0 j (then_acts o.0 open_slot) (λ same. (let first = eq-eqb j 0 (sym same) in cc)));
     })))

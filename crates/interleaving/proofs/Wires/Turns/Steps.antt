@@ -1,20 +1,20 @@
 -- A step over wires that rest, and what happens there: what the network, the kernel, the poller and the wires do.
 pub mod Ends
-pub use Rattle.interleaving.specs.{Threads.{Act, Acts, Call, Calls, Close, Connect, Deliver, Poll, Register, Thread, acts, after_act, delivers, poller_rests, posted, rests, with_thread}, Wires.{Plain, Step, Wired, batch_there, catching, cleared, closes, delay_after, fresh, happens, is_close, may_name, polls, sides_told, tells, told, wires_after}}
+pub use Rattle.interleaving.specs.{Threads.{Act, Acts, Call, Calls, Close, Connect, Deliver, Poll, Register, Thread, acts, after_act, delivers, poller_rests, note_posted, rests, with_thread}, Wires.{Plain, Step, WiredSystem, batch_there, catching, cleared, closes, delay_after, fresh_wires, happens, is_close, may_name, polls, sides_told, poller_tells, word_told, wires_after}}
 pub use Rattle.kernel_model.specs.{Names.are_among, declared.accepting.Accepting.TheVariants.Blocked}
 pub use Rattle.std.{proofs.{Common.{Vec, append-nil, slice_get, suc, unwrap_or, zero, ◌+◌, ◌-◌}, lemmas.{Bool.{eqb-true, not-true}, List.nil_from_length}}, specs.Global.Global}
 pub use Rattle.world.{proofs.Headline.Ends.Pairs.Holders.Events.Lists.has_polled, specs.declared.connection.Connection.Connection}
 pub use Ends.*
 
 -- These steps lead from here to what the threads over wires have come to
-pub record Led (before : System) (own : List alone.Step) (v : Wired) (d : Delay) : Type 0 where
+pub record Led (before : System) (own : List alone.Step) (v : WiredSystem) (d : Delay) : Type 0 where
   pub there : List (Option Registered)
   pub queue : List Name
   pub leads : run before own ≡ Some (seen_as v.system there queue (batch_there v.poll d.early v.system.batch))
   pub joined : Joined (rim v.system) v.wires v.poll d there queue
 
 -- by all that is kept
-pub led : {before : System} {own : List alone.Step} {v : Wired} {d : Delay} {o : Option ℕ} (there : List (Option Registered))
+pub led : {before : System} {own : List alone.Step} {v : WiredSystem} {d : Delay} {o : Option ℕ} (there : List (Option Registered))
     (queue : List Name) → run before own ≡ Some (seen_as v.system there queue (batch_there v.poll d.early v.system.batch))
     → Both (rim v.system) v.wires v.poll d.late there o → AllNamed o v.system.kernel.queue → Polls v.system.batch d.early o v.poll
     → ((n : Name) → has n queue ≡ true → (has n v.system.kernel.queue || in_poll d.early v.poll n) ≡ true) → Led before own v d
@@ -112,7 +112,7 @@ module _ {r : Rim} {wires : Side → Wire} {poll : Option Polling} {late : Side 
   quiet_there backlog (Away ends real there late) (reports.End i side) quiet = refl
   quiet_there backlog (Opened {g} f s ends real there oks) (reports.End i side) quiet =
       let none : is_readable (f side) ≡ false = grind arith in
-      rw (same_here (oks side) (λ reads told some. cc)).1 quiet
+      rw (same_here (oks side) (λ reads word_told some. cc)).1 quiet
 
   -- a report is withdrawn, of an end where no call could do anything
   withdrawn : {o : Option ℕ} (backlog : ℕ) (ends : Both r wires poll late e o) (who : Reported) (n : Name)
@@ -153,7 +153,7 @@ polled_now st e q o shape false (Some p) rests (Busy none few once named gone wi
           (elim (r.back n had.0) [ inl was ↦ or_left _ _ was | inr named ↦ or_right _ _ named ], not-true _ had.1);
     }
 
-module _ (w : Wired) (d : Delay) (e : List (Option Registered)) (q : List Name) (j : Joined (rim w.system) w.wires w.poll d e q) where
+module _ (w : WiredSystem) (d : Delay) (e : List (Option Registered)) (q : List Name) (j : Joined (rim w.system) w.wires w.poll d e q) where
   abbrev pub st : System
   st = w.system
 
@@ -164,11 +164,11 @@ module _ (w : Wired) (d : Delay) (e : List (Option Registered)) (q : List Name) 
   seen = seen_as w.system e q there_batch
 
   abbrev pub New : System → (Side → Wire) → Type 0
-  New next wires = Some (if is_none st.ends && is_some next.ends then fresh w.wires else w.wires) ≡ Some wires
+  New next wires = Some (if is_none st.ends && is_some next.ends then fresh_wires w.wires else w.wires) ≡ Some wires
 
   -- what a step of `System` with no connection that opens leaves of the wires
   pub old_wires : (next : System) (wires : Side → Wire) → next.ends ≡ st.ends → New next wires → wires ≡ w.wires
-  old_wires next wires same h = some_is h ∙ rw same (not_new st.ends (fresh w.wires) w.wires)
+  old_wires next wires same h = some_is h ∙ rw same (not_new st.ends (fresh_wires w.wires) w.wires)
 
   pub stays : (s : alone.Step) (next : System) (wires : Side → Wire) → Apart st e q there_batch (λ x. step x s) next → wires ≡ w.wires
       → Led seen (s ∷ []) (record w { system = next; wires = wires }) d
@@ -295,11 +295,11 @@ delivers_on st wires None d e q j (n ∷ rest) is next rested h = rw (some_is h)
     To next = Led (seen_as st e q st.batch) (Deliver ∷ []) (record { system = record next { batch = rest }; wires = wires; poll = None }) d
 
     posts : (m : EndName) → st.batch ≡ End m ∷ rest → (b : Bool) → ((m.slot == 0) && (st.entry == m.generation)) ≡ b
-        → To (if b then posted st m.generation else st)
+        → To (if b then note_posted st m.generation else st)
     posts m is true own = record { there = e; queue = q; leads = rw (rested, is, own) refl; joined = joined }
     posts m is false own = record { there = e; queue = q; leads = rw (rested, is, own) refl; joined = joined }
 
-    by : (n : Name) → st.batch ≡ n ∷ rest → To (alone.delivered st n)
+    by : (n : Name) → st.batch ≡ n ∷ rest → To (alone.report_delivered st n)
     by (End m) is = posts m is ((m.slot == 0) && (st.entry == m.generation)) refl
     by n is = record { there = e; queue = q; leads = rw (rested, is) refl; joined = joined }
 
@@ -389,7 +389,7 @@ module _ (st : System) (wires : Side → Wire) (p : Polling) (d : Delay) (e : Li
         (λ k h. rw (same_poll d.early k) (came_way st.kernel.queue polls (oks side) j.on_way c k h))
 
   -- the first report that is left is passed on
-  pub tells_on : (left : List Name) → p.left ≡ left → (v : Wired) → tells (record { system = st; wires = wires; poll = Some p }) p left ≡ Some v
+  pub tells_on : (left : List Name) → p.left ≡ left → (v : WiredSystem) → poller_tells (record { system = st; wires = wires; poll = Some p }) p left ≡ Some v
       → Led sees (comes d.late (sides_told p left)) v (record d { late = cleared (sides_told p left) d.late })
   tells_on [] is v h = cc
   tells_on (Listener ∷ rest) is v h = rw (some_is h) (hears_nothing Listener rest is (λ m own. cc))

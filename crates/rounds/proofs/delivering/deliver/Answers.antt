@@ -1,16 +1,16 @@
 use Rattle.std.proofs.{Common.{take, arith}, lemmas.List.{length-take, take_more, Elements.filter_map-append}}
-use Rattle.rounds.specs.Acts.{reported}
+use Rattle.rounds.specs.Acts.{connection_reported}
 use Rattle.rounds.proofs.Acts.{room_left, in_order, posted_both, holds_nothing_still, filter_le}
 use Rattle.rounds.proofs.delivering.deliver.Goals as goal
 
 pub post_note-requires-clause-room : goal.post_note-requires-clause-room
 post_note-requires-clause-room g c =
     let before = take c.loop-number.number-index c.args.batch.now in
-    omega (arith, room_left c.loop-number.invariant.delivered, filter_le (reported c.args.table.now) before, length-take c.loop-number.number-index c.args.batch.now)
+    omega (arith, room_left c.loop-number.invariant.delivered, filter_le (connection_reported c.args.table.now) before, length-take c.loop-number.number-index c.args.batch.now)
 
 pub loop-number-preserved : goal.loop-number-preserved
 loop-number-preserved g c =
-    rw (take_more c.args.batch.now c.loop-number.number-index 0 c.loop-number-test.true, filter_map-append (reported c.args.table.now))
+    rw (take_more c.args.batch.now c.loop-number.number-index 0 c.loop-number-test.true, filter_map-append (connection_reported c.args.table.now))
     (record {
       made = in_order _ _ _ _ _ _ c.loop-number.invariant.made (rw c.connection.ensures.value at c.post_note.ensures.made);
       delivered = posted_both c.loop-number.invariant.delivered (rw c.connection.ensures.value at c.post_note.ensures.posted);

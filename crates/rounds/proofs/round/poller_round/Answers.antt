@@ -1,6 +1,6 @@
 use Rattle.std.proofs.Common.{◌≡◌, refl, length, inl, inr, arith}
 use Rattle.rounds.proofs.{Rounds.{accept_and_took, between_still, room_same, took_none, answered, lasts, begun_not_early, ended_still, flag_ended, flag_up, kept, listens_still, unless, round_ended, round_of, waits_still}, Acts.{filter_le, room_left, few_sweep, flag_down, flag_raised}}
-use Rattle.rounds.specs.Acts.{reported}
+use Rattle.rounds.specs.Acts.{connection_reported}
 use Rattle.rounds.proofs.round.poller_round.Goals as goal
 
 pub returns-then-not-has_room : goal.returns-then-not-has_room
@@ -45,7 +45,7 @@ pub keep_time-requires-clause-room : goal.keep_time-requires-clause-room
 keep_time-requires-clause-room g c =
     let room = c.has_room.ensures.room c.if-not-has_room.false in
     let same : length c.raise_accept_flag.new.self.table ≡ length c.look.new.poller.table = rw c.raise_accept_flag.ensures in
-    omega (arith, room_same c.look.ensures.took, room_left c.deliver_batch-listener.ensures.posts.posted, filter_le (reported c.look.new.poller.table) c.look.new.poller.batch)
+    omega (arith, room_same c.look.ensures.took, room_left c.deliver_batch-listener.ensures.posts.posted, filter_le (connection_reported c.look.new.poller.table) c.look.new.poller.batch)
 
 pub accept-requires-clause-room : goal.accept-requires-clause-room
 accept-requires-clause-room g c =
@@ -54,7 +54,7 @@ accept-requires-clause-room g c =
     let swept = room_left c.keep_time.ensures.posts.posted in
     let same : length c.raise_accept_flag.new.self.table ≡ length c.look.new.poller.table = rw c.raise_accept_flag.ensures in
     let few = few_sweep c.raise_accept_flag.new.self c.keep_time.new.poller in
-    omega (arith, room_same c.look.ensures.took, filter_le (reported c.look.new.poller.table) c.look.new.poller.batch)
+    omega (arith, room_same c.look.ensures.took, filter_le (connection_reported c.look.new.poller.table) c.look.new.poller.batch)
 
 pub returns : goal.returns
 returns g c =

@@ -50,7 +50,7 @@ registered s g side e = record { token = token_at s side g; socket = e }
 pub record EndsOk (past : History) (st : State) (s g : ℕ) (notes : List ℕ) (c : Connection) : Type 0 where
   pub generation : c.pair.generation ≡ g
   pub ends : Sockets
-  pub there : (side : Side) → end_of st c side ≡ Some (registered s g side (socket_of ends side))
+  pub there : (side : Side) → end_there st c side ≡ Some (registered s g side (socket_of ends side))
   pub pair : PairOk (past s g) (λ side. is_pending st (token_at s side g) || is_nonempty notes) c.pair ends
 
 -- a slot: the poller's table has its generation, a later one has its preamble alone, and its connection is in order
@@ -308,7 +308,7 @@ module _ (now : ℕ) {h : Side → List ℕ} {r : Side → Bool} {p : PairState}
 
 module _ {past : History} {st : State} {s g : ℕ} {notes : List ℕ} {c : Connection} (ok : EndsOk past st s g notes c) where
   -- what lies at the descriptor of a side
-  pub its_end : (side : Side) (r : Registered) → end_of st c side ≡ Some r → r ≡ registered s g side (socket_of ok.ends side)
+  pub its_end : (side : Side) (r : Registered) → end_there st c side ≡ Some r → r ≡ registered s g side (socket_of ok.ends side)
   its_end side r there = cc (ok.there side)
 
   told_is : (call : Call) (said : Reply) → told_of (record { kernel = st.kernel; connection = c }) call said ≡ told_by (socket_of ok.ends (side_of call)) call said

@@ -1,8 +1,8 @@
 -- The two ends of the slot's connection over wires that rest, and the same ends where what is late has not come: what the
 -- kernel does at one of them, and what is kept of both.
-pub use Rattle.interleaving.{proofs.{Rest.Acts.Weights.{same_is, same_self}, Runs.run_on}, specs.{Threads.{Network, Spurious, System, Vanish, over_kernel, run, step}, Wires.{Delay, Polling, Wire, comes, end_here, in_poll, is_input, on, report_of, seen_as, waits}}}
+pub use Rattle.interleaving.{proofs.{Rest.Acts.Weights.{same_is, same_self}, Runs.run_on}, specs.{Threads.{Network, Spurious, System, Vanish, on_kernel, run, step}, Wires.{Delay, Polling, Wire, comes, end_here, in_poll, is_input, on, report_of, seen_as, waits}}}
 pub use Rattle.kernel_model.specs.{Ends.{EndState, arrival, failure, finish, is_readable, is_writable, new_room, opened}, Kernel.{KernelState, Registered, changed, end_at, open_both, reported}, Names.{are_distinct, has, same, with_name, without_name, without_names}, Outcome.{Told, guard}, declared.{both.Descriptors.Descriptors, reply.Reply.Reply}}
-pub use Rattle.readiness.{proofs.Runs.{Heard, both_down, guarded, heard, mapped, some_is}, specs.Machine.{Call, WillBeTold, after_call, may_call, reads_after}}
+pub use Rattle.readiness.{proofs.Runs.{Heard, both_down, guarded, heard, mapped, some_is}, specs.Machine.{Call, WillBeTold, after_call, may_call, reads_then}}
 pub use Rattle.std.{proofs.{Common.{Bool, Contains, List, None, Option, Some, [], ap, append-nil, arith, false, if◌then◌else◌, inl, inr, length, map, nat_le, not, option_and_then, option_map, refl, sym, true, unwrap_or, ℕ, ◌&&◌, ◌++◌, ◌==◌, ◌||◌, ◌∙◌, ◌∷◌, ◌≡◌, ◌≢◌, ◌⊎◌}, lemmas.{Bool.{and_parts, cases_eq, not-true, or_cases, or_left, or_parts, or_right}, Option.option_and_then_some}}, specs.{Cmp.{first_so, second_so}, List.{filter, list_all}, Option.{is_none, is_some}}}
 pub use Rattle.token.specs.{Names.EndName, declared.{name.Name.{Name, TheVariants.{End, Listener, Waker}}, side.Side.{Side, TheVariants.{Client, Target}}}}
 pub use Rattle.world.{proofs.Headline.Ends.Pairs.Holders.Events.Lists.{has_reported, has_with, has_without, reported_has}, specs.{Calls.{descriptor, when}, Steps.change_at, declared.event.{Change.{Change, TheVariants.{Arrive, Fin, Reset, Room}}, Reported.Reported}}}
@@ -109,8 +109,8 @@ net_back b F G o z h = grind arith
 
 pub network_here : (st : System) (g : ℕ) (f : Side → EndState) (side : Side) (c : Change) → st.ends ≡ Some two → st.kernel.ends ≡ open_as g f
     → step st (Network side c) ≡ option_map (λ (k : KernelState). record st { kernel = k }) (when (is_short c) (option_map (at_end st.kernel g f side) (effect c (f side))))
-network_here st g f side c ends real = ap (λ (o : Option Descriptors). option_and_then (λ (ends : Descriptors). over_kernel st (change_at st.kernel (descriptor ends side) c)) o) ends
-    ∙ ap (over_kernel st) (change_at_end st.kernel g f side c real)
+network_here st g f side c ends real = ap (λ (o : Option Descriptors). option_and_then (λ (ends : Descriptors). on_kernel st (change_at st.kernel (descriptor ends side) c)) o) ends
+    ∙ ap (on_kernel st) (change_at_end st.kernel g f side c real)
 
 -- what is late comes
 pub network_there : (st : System) (g : ℕ) (s : Side → EndState) (q b : List Name) (side : Side) (c : Change) (t : Told EndState Bool) → st.ends ≡ Some two → is_short c ≡ true
@@ -289,7 +289,7 @@ heard_at Room e t may is = cc
 pub record Answered (x : EndState) (b : Bool) (wire : Wire) (late : List Change) (f : EndState) (call : Call) (r : Reply) : Type 0 where
   pub there : EndState
   pub is : after_call x call r ≡ Some there
-  pub ok : EndOk f b (record wire { reads = reads_after wire.reads call r }) late there
+  pub ok : EndOk f b (record wire { reads = reads_then wire.reads call r }) late there
 
 -- a change that does not wait comes there too
 pub record Moved (e x : EndState) (b : Bool) (wire : Wire) (late : List Change) (c : Change) (t : Told EndState Bool) : Type 0 where
@@ -347,13 +347,13 @@ module _ {e x : EndState} {b : Bool} {wire : Wire} {late : List Change} (ok : En
       }
 
   -- a read: the wire reads, so nothing is late
-  reads_now : (f : EndState) (most : ℕ) (r : Reply) → wire.reads ≡ true → after_call e (machine.Read most) r ≡ Some f → (reads_after wire.reads (machine.Read most) r ≡ false → Rests f)
+  reads_now : (f : EndState) (most : ℕ) (r : Reply) → wire.reads ≡ true → after_call e (machine.Read most) r ≡ Some f → (reads_then wire.reads (machine.Read most) r ≡ false → Rests f)
       → Answered x b wire late f (machine.Read most) r
   reads_now f most r up is rests =
       let same = same_here ok (λ reads told some. cc) in
       record { there = f; is = rw same.1 is; ok = rw same.0 (record { due = Settled; waits = Prompt refl; rests = λ reads told. rests reads }) }
 
-  other_call : (f : EndState) (call : Call) (r : Reply) → may_call false call ≡ true → after_call e call r ≡ Some f → is_failed r ≡ false → reads_after wire.reads call r ≡ wire.reads
+  other_call : (f : EndState) (call : Call) (r : Reply) → may_call false call ≡ true → after_call e call r ≡ Some f → is_failed r ≡ false → reads_then wire.reads call r ≡ wire.reads
       → Answered x b wire late f call r
   other_call f call r other is sound same =
       let call_aside : IsAside (answered call r) =

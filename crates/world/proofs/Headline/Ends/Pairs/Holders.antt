@@ -79,7 +79,7 @@ standing f g = record { slot = f.slot; generation = g; up_capacity = f.ring; dow
 -- the connection in a slot is the slot's own, and while nobody holds the slot it is live, and without a
 -- note it has no call to make
 pub record ConnectionOk (f : Facts) (p : SlotState) (c : Connection) : Type 0 where
-  pub stands : place_of c.pair ≡ standing f p.generation
+  pub stands : pair_place c.pair ≡ standing f p.generation
   pub live : p.holder ≡ Nobody → is_live (verdict c.pair) ≡ true
   pub rest : p.holder ≡ Nobody → p.notes ≡ [] → next_call c.pair ≡ None
 
@@ -304,7 +304,7 @@ pub record Waiting (p : SlotState) : Type 0 where
   pub some : is_nonempty p.notes ≡ true
   pub lies : is_some p.connection ≡ true
 
-pub own_generation : (f : Facts) (p : SlotState) (c : Connection) → place_of c.pair ≡ standing f p.generation → c.pair.generation ≡ p.generation
+pub own_generation : (f : Facts) (p : SlotState) (c : Connection) → pair_place c.pair ≡ standing f p.generation → c.pair.generation ≡ p.generation
 own_generation f p c stands = grind arith
 
 there_is : {X : Type 0} (o : Option X) → is_some o ≡ true → (x : X) × (o ≡ Some x)
@@ -370,12 +370,12 @@ held_slot {st} {w} h turns = grind (arith, turns.each h.s h.p h.lies, total_at (
 -- a worker keeps the slot that it holds, and changes its notes and the connection's state
 keeps_held : {st next : State} {w : ℕ} (h : Holding st w) (notes : List ℕ) (c : Connection) → Turns st
     → next.slots ≡ slice_set st.slots h.s (record h.p { notes = notes; connection = Some c }) → ((j g : ℕ) → Same (facts st j g) (facts next j g))
-    → are_own h.p.generation notes ≡ true → place_of c.pair ≡ place_of h.c.pair → Turns next
+    → are_own h.p.generation notes ≡ true → pair_place c.pair ≡ pair_place h.c.pair → Turns next
 keeps_held {st} {next} h notes c turns all same own stands =
     let sv = turns.each h.s h.p h.lies in keep_others h.s turns h.lies all (λ j g apart. same j g)
     (grind (arith, sv, held_slot h turns, same h.s h.p.generation, sv.connection h.c h.is))
 
-heard_stands : (c : Connection) (some : Bool) → place_of (if some then record c { pair = noted c.pair } else c).pair ≡ place_of c.pair
+heard_stands : (c : Connection) (some : Bool) → pair_place (if some then record c { pair = noted c.pair } else c).pair ≡ pair_place c.pair
 heard_stands c some = grind arith
 
 call_turns : (laws : CoreLaws) {st : State} {w : ℕ} (h : Holding st w) {r : Reply} (m : Made st h.c r) → Turns st → Turns (called_on h m)
@@ -440,7 +440,7 @@ module _ (st : State) (w : ℕ) (k : WorkerState) (s : ℕ) (p : SlotState) (the
       (λ j g apart. let away = one_other s j apart in turned_elsewhere st w (Retired s) j g there does (omega arith) (omega arith))
       (grind (arith, turns.each s p lies, closed_by, turned st w (Retired s) s p.generation there does, one_same s))
 
-freed_most : (i : ℕ) (slots : List ℕ) (s : ℕ) (p : SlotState) → total (is_number i) (freed slots s p) ≤ total (is_number i) slots + one (s == i)
+freed_most : (i : ℕ) (slots : List ℕ) (s : ℕ) (p : SlotState) → total (is_number i) (free_after slots s p) ≤ total (is_number i) slots + one (s == i)
 freed_most i slots s p = grind (arith, total_push (is_number i) slots s)
 
 -- each event keeps it
@@ -487,11 +487,11 @@ numbers_once (suc n) s = omega (arith, total_push (is_number s) (numbers_below n
 unused_ok : (l : Limits) (s : ℕ) → slice_get (replicate l.slots l.generation) s ≡ Some l.generation → SlotOk (facts (opening l) s l.generation) (unused l.generation)
 unused_ok l s entry = grind (
   arith,
-  total_none (worker_tickets s) l.workers resting refl,
-  total_none (worker_right s l.generation) l.workers resting refl,
-  total_none (worker_holds s) l.workers resting refl,
-  total_none (worker_closes s) l.workers resting refl,
-  total_none (worker_retires s) l.workers resting refl,
+  total_none (worker_tickets s) l.workers resting_worker refl,
+  total_none (worker_right s l.generation) l.workers resting_worker refl,
+  total_none (worker_holds s) l.workers resting_worker refl,
+  total_none (worker_closes s) l.workers resting_worker refl,
+  total_none (worker_retires s) l.workers resting_worker refl,
   numbers_once l.slots s,
 )
 
@@ -555,7 +555,7 @@ untouched : {st next : State} {e : Event} → next.slots ≡ st.slots → ((s : 
 untouched all none same s p there = record { place = p; there = rw all there; word = rw (none s); tickets = rw (none s) (omega (arith, same s)) }
 
 moves_at : {st next : State} {e : Event} (s i : ℕ) {p : SlotState} (r : SlotState) {old : SlotState} (kinds : List StepKind) → (s ≡ i) ⊎ (s ≢ i) → slice_get st.slots s ≡ Some p
-    → next.slots ≡ slice_set st.slots s r → steps st e i ≡ at_slot i s kinds → word_at r ≡ after_all kinds (word_at p)
+    → next.slots ≡ slice_set st.slots s r → steps st e i ≡ kinds_at i s kinds → word_at r ≡ word_after_kinds kinds (word_at p)
     → tickets next s + claims kinds ≡ tickets st s + count_wakes kinds (word_at p) → (s ≢ i → tickets next i ≡ tickets st i) → slice_get st.slots i ≡ Some old → WordMoves st next e i old
 moves_at {st} {e = e} s i {p} r {old} kinds (inl same) there all made word count others here =
     let was : p ≡ old = let at : slice_get st.slots s ≡ Some old = rw same here in (cc) in
@@ -577,7 +577,7 @@ moves_at {st} {e = e} s i r {old} kinds (inr apart) there all made word count ot
 
 -- an event that makes steps at one slot
 touched : {st next : State} {e : Event} (s : ℕ) {p : SlotState} (r : SlotState) (kinds : List StepKind) → slice_get st.slots s ≡ Some p → next.slots ≡ slice_set st.slots s r
-    → ((i : ℕ) → steps st e i ≡ at_slot i s kinds) → word_at r ≡ after_all kinds (word_at p)
+    → ((i : ℕ) → steps st e i ≡ kinds_at i s kinds) → word_at r ≡ word_after_kinds kinds (word_at p)
     → tickets next s + claims kinds ≡ tickets st s + count_wakes kinds (word_at p) → ((i : ℕ) → s ≢ i → tickets next i ≡ tickets st i) → WordsMove st e next
 touched s r kinds there all made word count others i old here = moves_at s i r kinds (cases_eq s i) there all (made i) word count (others i) here
 
@@ -591,7 +591,7 @@ stays s r there all none word same = touched s r [] there all (λ i. none i ∙ 
 
 -- a note more
 
-noted_word : (p : SlotState) (g : ℕ) → word_at (with_note p g) ≡ after_all (words.post ∷ []) (word_at p)
+noted_word : (p : SlotState) (g : ℕ) → word_at (with_note p g) ≡ word_after_kinds (words.post ∷ []) (word_at p)
 noted_word p g = grind (arith, length-append p.notes (g ∷ []))
 
 waits : (n : ℕ) → some_wait n ≡ nat_lt 0 n
@@ -600,7 +600,7 @@ waits n = grind (arith, nat_tests)
 wakes_so : (held : Bool) (n : ℕ) → (if held then false else (if some_wait n then false else true)) ≡ not (held || nat_lt 0 n)
 wakes_so held n = grind (arith, nat_tests)
 
-posted_words : (st : State) {next : State} {e : Event} (s g : ℕ) (p : SlotState) → ((i : ℕ) → steps st e i ≡ at_slot i s (words.post ∷ [])) → slice_get st.slots s ≡ Some p
+posted_words : (st : State) {next : State} {e : Event} (s g : ℕ) (p : SlotState) → ((i : ℕ) → steps st e i ≡ kinds_at i s (words.post ∷ [])) → slice_get st.slots s ≡ Some p
     → next.slots ≡ slice_set st.slots s (with_note p g) → ((i : ℕ) → tickets next i ≡ tickets (posted st s g p) i) → WordsMove st e next
 posted_words st s g p made there all like =
     let more = handed (of_slot s) (brings_ticket p) s g st.hand (one_same s) in

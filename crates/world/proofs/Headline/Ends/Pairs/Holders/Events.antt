@@ -43,7 +43,7 @@ pub record Made (st : State) (c : Connection) (r : Reply) : Type 0 where
   pub next : next_call c.pair ≡ Some call
   pub told : told_of (record { kernel = st.kernel; connection = c }) call r ≡ Some value
   pub fit : fits c.pair call value ≡ true
-  pub there : end_of st c (side_of call) ≡ Some old
+  pub there : end_there st c (side_of call) ≡ Some old
   pub replied : end_after c.pair call r old.socket ≡ Some socket
 
 -- the ends with another at one side of a connection
@@ -90,7 +90,7 @@ behind st = record st { batch = drop 1 st.batch }
 
 pub data Happens (st : State) : Event → State → Type 0 where
   Ticks : (n : ℕ) → Happens st (event.Tick n) (record st { second = st.second + n })
-  Changes : (s : ℕ) (side : Side) (change : Change) (c : Connection) (r : Registered) (t : Told EndState Bool) → connection_at st s ≡ Some c → end_of st c side ≡ Some r
+  Changes : (s : ℕ) (side : Side) (change : Change) (c : Connection) (r : Registered) (t : Told EndState Bool) → connection_at st s ≡ Some c → end_there st c side ≡ Some r
       → change_of change r.socket ≡ Some t → Happens st (event.Network s side change) (record st {
         kernel = record st.kernel {
           ends = ends_with st c side (Some (record r { socket = t.value }));
@@ -101,7 +101,7 @@ pub data Happens (st : State) : Event → State → Type 0 where
   WithdrawsListener : (st.kernel.backlog == 0) ≡ true
       → Happens st (event.Vanish reports.Listener) (record st { kernel = record st.kernel { queue = without_name Listener st.kernel.queue } })
   WithdrawsWaker : Happens st (event.Vanish reports.Waker) (record st { kernel = record st.kernel { queue = without_name Waker st.kernel.queue } })
-  Withdraws : (s : ℕ) (side : Side) (c : Connection) (r : Registered) → connection_at st s ≡ Some c → end_of st c side ≡ Some r → is_quiet_end (Some r) ≡ true
+  Withdraws : (s : ℕ) (side : Side) (c : Connection) (r : Registered) → connection_at st s ≡ Some c → end_there st c side ≡ Some r → is_quiet_end (Some r) ≡ true
       → Happens st (event.Vanish (reports.End s side)) (record st { kernel = record st.kernel { queue = without_name (End r.token) st.kernel.queue } })
   Connects : Happens st (event.Listen listening.Connect) (record st {
     kernel = record st.kernel {
@@ -139,12 +139,12 @@ pub data Happens (st : State) : Event → State → Type 0 where
   Releases : (w : ℕ) (h : Holding st w) → may_release h.c (is_nonempty h.p.notes) ≡ true → Happens st (event.Work w act.Release) (released h)
   Expires : (w : ℕ) (h : Holding st w) → is_overdue st.second st.limits.idle h.c.pair ≡ true
       → Happens st (event.Work w act.Expire) (with_place st h.s (record h.p { connection = Some (record h.c { pair = timed_out h.c.pair }) }))
-  Closes : (w : ℕ) (h : Holding st w) (one two : Registered) → end_of st h.c Client ≡ Some one → end_at (ends_with st h.c Client None) h.c.ends.target ≡ Some two
+  Closes : (w : ℕ) (h : Holding st w) (one two : Registered) → end_there st h.c Client ≡ Some one → end_at (ends_with st h.c Client None) h.c.ends.target ≡ Some two
       → Happens st (event.Work w act.Close) (closed_on h one two)
   Retires : (w : ℕ) (k : WorkerState) (s : ℕ) (p : SlotState) → slice_get st.workers w ≡ Some k → k.doing ≡ Closed s → slice_get st.slots s ≡ Some p
       → Happens st (event.Work w act.Retire) (doing (with_place st s (record p { holder = Free })) w k (Retired s))
   Frees : (w : ℕ) (k : WorkerState) (s : ℕ) (p : SlotState) → slice_get st.workers w ≡ Some k → k.doing ≡ Retired s
-      → Happens st (event.Work w act.Free) (doing (record st { free = freed st.free s p }) w k Idle)
+      → Happens st (event.Work w act.Free) (doing (record st { free = free_after st.free s p }) w k Idle)
 
 module _ (st : State) where
   abbrev On : Event → Option State → Type 0
@@ -152,12 +152,12 @@ module _ (st : State) where
 
   changes : (s : ℕ) (side : Side) (change : Change) (c : Connection) → connection_at st s ≡ Some c → (f : EndState → Option (Told EndState Bool))
       → ((e : EndState) → f e ≡ change_of change e) → On (event.Network s side change) (over_kernel st (changed st.kernel (descriptor c.ends side) f))
-  changes s side change c lies f is = kept_over _ _ (kept_bind _ (end_of st c side) (λ r there. kept_map _ (f r.socket) (λ t now.
+  changes s side change c lies f is = kept_over _ _ (kept_bind _ (end_there st c side) (λ r there. kept_map _ (f r.socket) (λ t now.
       Changes s side change c r t lies there (sym (is r.socket) ∙ now))))
 
   network_does : (s : ℕ) (side : Side) (change : Change) (c : Connection) → connection_at st s ≡ Some c
       → On (event.Network s side change) (over_kernel st (change_at st.kernel (descriptor c.ends side) change))
-  network_does s side (Arrive bytes) c lies = kept_over _ _ (kept_when _ _ (λ few. kept_bind _ (end_of st c side) (λ r there. kept_map _ (arrival r.socket bytes.items) (λ t now.
+  network_does s side (Arrive bytes) c lies = kept_over _ _ (kept_when _ _ (λ few. kept_bind _ (end_there st c side) (λ r there. kept_map _ (arrival r.socket bytes.items) (λ t now.
       Changes s side (Arrive bytes) c r t lies there now))))
   network_does s side Fin c lies = changes s side Fin c lies _ (λ e. refl)
   network_does s side Reset c lies = changes s side Reset c lies _ (λ e. refl)
@@ -225,7 +225,7 @@ module _ (st : State) where
         (record p { connection = Some l.connection })) w (worker (Holds s left) hand) (Holds s (left - 1)))) (called st.second (record { kernel = st.kernel; connection = c }) r)
     unfolding called
     calls p c lies is r = kept_bind _ (next_call c.pair) (λ call next. kept_bind _ (told_of (record { kernel = st.kernel; connection = c }) call r) (λ t told. kept_when (fits c.pair call t) _ (λ fit.
-        kept_over _ _ (rw (made_is (record { kernel = st.kernel; connection = c }) call r) (kept_bind _ (end_of st c (side_of call)) (λ old at. kept_map _ (end_after c.pair call r old.socket)
+        kept_over _ _ (rw (made_is (record { kernel = st.kernel; connection = c }) call r) (kept_bind _ (end_there st c (side_of call)) (λ old at. kept_map _ (end_after c.pair call r old.socket)
         (λ e replied. Calls w (holding p c lies is) r
         (record { call = call; value = t; old = old; socket = e; next = next; told = told; fit = fit; there = at; replied = replied }))))))))
 
@@ -246,7 +246,7 @@ module _ (st : State) where
       (kept_guard _ _ (λ over. Expires w (holding w s left hand there p c lies is) over)))))
   acts w act.Close (Holds s left) hand there = kept_bind _ (slice_get st.slots s) (λ p lies. kept_bind _ p.connection (λ c is.
       kept_when (not (is_live (verdict c.pair))) _ (λ dead. kept_over _ _ (kept_through _ _
-      (kept_map _ (end_of st c Client) (λ one at. kept_over _ _ (kept_map _ (end_at (ends_with st c Client None) c.ends.target) (λ two as_well.
+      (kept_map _ (end_there st c Client) (λ one at. kept_over _ _ (kept_map _ (end_at (ends_with st c Client None) c.ends.target) (λ two as_well.
       Closes w (holding w s left hand there p c lies is) one two at as_well))))))))
   acts w act.Retire (Closed s) hand there = kept_map _ (slice_get st.slots s) (λ p lies. Retires w _ s p there refl lies)
   acts w act.Free (Retired s) hand there = kept_map _ (slice_get st.slots s) (λ p lies. Frees w _ s p there refl)
@@ -255,10 +255,10 @@ module _ (st : State) where
   pub happens : (e : Event) → On e (step st e)
   happens (event.Tick n) = kept_guard _ _ (λ may. Ticks n)
   happens (event.Network s side change) = kept_bind _ (connection_at st s) (λ c lies. network_does s side change c lies)
-  happens (event.Spurious who) = kept_bind _ (watched_of st who) (λ x is. kept_over _ _ (kept_map _ (name_of st.kernel x) (λ n named. Reports who n)))
+  happens (event.Spurious who) = kept_bind _ (watched_of st who) (λ x is. kept_over _ _ (kept_map _ (name_watched st.kernel x) (λ n named. Reports who n)))
   happens (event.Vanish reports.Listener) = kept_over _ _ (kept_guard _ _ (λ may. WithdrawsListener (second_so (has Listener st.kernel.queue) _ may)))
   happens (event.Vanish reports.Waker) = kept_over _ _ (kept_guard _ _ (λ may. WithdrawsWaker))
-  happens (event.Vanish (reports.End s side)) = kept_through _ _ (kept_map _ (connection_at st s) (λ c lies. kept_over _ _ (kept_through _ _ (kept_map _ (end_of st c side) (λ r there.
+  happens (event.Vanish (reports.End s side)) = kept_through _ _ (kept_map _ (connection_at st s) (λ c lies. kept_over _ _ (kept_through _ _ (kept_map _ (end_there st c side) (λ r there.
       kept_guard _ _ (λ may. Withdraws s side c r lies there (let quiet = second_so (has (End r.token) st.kernel.queue) _ may in rw there at quiet)))))))
   happens (event.Listen l) = listens l
   happens (event.Poll p) = polls p

@@ -2,10 +2,10 @@
 pub use Rattle.std.{proofs.{Common.{Bool, Err, Global, IfOk, List, None, Ok, Option, Result, Some, [], ap, append-nil, append_assoc, arith, cond, drop, eq-eqb, eqb-true, false, if◌then◌else◌, inl, inr, is_none, is_some, le_refl, length, length-append, lt-ltb, nat_lt, ne_eqb, not, option_and_then, option_map, refl, replicate, slice_get, slice_set, subst, suc, sym, take, take-append-drop, Vec, true, unwrap_or, zero, ℕ, ⊎_elim, ◌&&◌, ◌*◌, ◌++◌, ◌+◌, ◌-◌, ◌<◌, ◌==◌, ◌||◌, ◌∙◌, ◌∷◌, ◌≡◌, ◌≢◌, ◌≤◌, ◌⊎◌}, Math.Seq.{drop-nil, take-append_seam}, lemmas.{Bool.{and_parts, cases_eq, lt-leb, Decides.nat_tests}, Grind.common_steps, List.{nil_from_length, take_more}, Option.{get_or_from_slice_get, gets, slice_get_within}}}, specs.{Cmp.{first_so, second_so}, List.{list_all, list_any, position_or_len}, Option.{option_flatten, option_or}, Prelude.nat_le}}
 pub use Rattle.claims.specs.Words.{StepKind, some_wait}
 pub use Rattle.flow.{proofs.Front.{take-front, waiting-dropped, waiting_ends}, specs.Stream.{Stream, closed, dropped, empty_stream, ended, front, taken_in, waiting}}
-pub use Rattle.kernel_model.specs.{Ends.{EndState, arrival, finish, is_nonempty, is_readable, is_writable, new_room, opened}, Kernel.{KernelState, Registered, changed, end_at, is_quiet_end, lowest_free, name_of, open_both, reported, with_end}, Names.{has, same, same_end, with_name, without_name, without_names}, Outcome.{Meets, Told, guard}, Replies.{after_join, after_read, after_shut, after_write, bytes_read, is_count}, declared.{accepting.Accepting.{Accepting, TheVariants.{Accepted, Blocked}}, both.{Descriptors.Descriptors, Sockets.Sockets}, refusal.Refusal.{Refusal, TheVariants.{NoMemory, NotAllowed}}, reply.Reply.Reply}}
-pub use Rattle.relay_core.specs.{Idle.{is_overdue, timed_out}, Calls.side_of, Laws.{IsAtRest, IsClosedLast, IsDrained, IsOverdue, Place as Standing, place_of}, Order.{call_for, is_drained, is_open, is_waiting, next_call, offer}, Pairs.{PairState, flags_of, fresh, is_joined, is_live, noted, stream_of, verdict, verdict_of}, Replies.{after, fits, moves}, declared.{call.Call.{Call, TheVariants.{Join, Read, Shut, Write}}, flags.Flags.Flags, verdict.{Fault.{Fault, TheVariants.Broken}, Verdict.{Verdict, TheVariants.{Done, Failed, Live}}}}}
+pub use Rattle.kernel_model.specs.{Ends.{EndState, arrival, finish, is_nonempty, is_readable, is_writable, new_room, opened}, Kernel.{KernelState, Registered, changed, end_at, is_quiet_end, lowest_free, name_watched, open_both, reported, with_end}, Names.{has, same, same_end, with_name, without_name, without_names}, Outcome.{Meets, Told, guard}, Replies.{after_join, after_read, after_shut, after_write, bytes_read, is_count}, declared.{accepting.Accepting.{Accepting, TheVariants.{Accepted, Blocked}}, both.{Descriptors.Descriptors, Sockets.Sockets}, refusal.Refusal.{Refusal, TheVariants.{NoMemory, NotAllowed}}, reply.Reply.Reply}}
+pub use Rattle.relay_core.specs.{Idle.{is_overdue, timed_out}, Calls.side_of, Laws.{IsAtRest, IsClosedLast, IsDrained, IsOverdue, Place as Standing, pair_place}, Order.{call_for, is_drained, is_open, is_waiting, next_call, offer}, Pairs.{PairState, flags_of, fresh, is_joined, is_live, noted, stream_of, verdict, verdict_of}, Replies.{after, fits, moves}, declared.{call.Call.{Call, TheVariants.{Join, Read, Shut, Write}}, flags.Flags.Flags, verdict.{Fault.{Fault, TheVariants.Broken}, Verdict.{Verdict, TheVariants.{Done, Failed, Live}}}}}
 pub use Rattle.token.specs.{Names.EndName, Sides.{destination, inward, opposite, other_side, side_number, source}, declared.{direction.Direction.{Direction, TheVariants.{Down, Up}}, kind.Kind.Kind, name.Name.{Name, TheVariants.{End, Listener, Waker}}, side.Side.{Side, TheVariants.{Client, Target}}}}
-pub use Rattle.world.specs.{Acts.busy, Calls.{OpenConnection, descriptor, made, plain, replied, told_of, when}, CoreLaws.CoreLaws, Due.{due, flows, gives, has_place, has_ticket, is_report, is_reported, is_ticket, is_ticketed, movable, moves as could_move, takes, tries}, Headline.{BytesAndEndsHold, ClaimsByOwnTicket, ClosedHold, DirectionHolds, FailedAfter, FailedBy, Failure, FailuresHold, HeadlineHolds, ListenerHolds, Named, TakesOwnNotes, Throughout, TriedOnOwn, end_of, failure, failure_by, fault_of, given, given_by, has_generation, held_connection, is_movement, moved_by, named, next_opened, preamble, socket_of}, LeadLaws.is_padded, Leads.{for_all, lead_at}, Memory.{free_length, grows}, Runs.run, Slots.{SlotState, WorkerState, is_by_worker, is_held}, States.{State, is_entry, numbers_below, opening, resting, unused}, Steps.{acted, brings_ticket, call, change_at, claim, closed_world, connection_at, delivered, delivered_at, doing, free, freed, heard, is_limited, listen, may_accept, opened_place, opened_world, over_kernel, polled, popped, post, post_at, posted, put_by_poller, release, retire, step, token_of, watched_of, with_note, with_place, with_ticket, with_worker}, Support.{EdgesHold, EndCovered, SupportHolds, TableHolds, has_report, is_covered, of_slot, one, tickets, total, tried, worker_tickets}, Words.{WordMoves, WordsMove, WordsMoveInRuns, after_all, at_slot, claims, count_wakes, is_free, steps, word_at}, declared.{actors.{Doing.{Doing, TheVariants.{Closed, Holds, Idle, Retired, Tries}}, Holder.{Holder, TheVariants.{By, Free, Nobody}}, Ticket.Ticket}, connection.Connection.Connection, event.{Act.Act, Change.{Change, TheVariants.{Arrive, Fin, Reset, Room}}, Event.Event, Listening.Listening, Polling.Polling, Reported.Reported}, limits.Limits.Limits, past.Past.Past}}
+pub use Rattle.world.specs.{Acts.busy, Calls.{OpenConnection, descriptor, made, plain, replied, told_of, when}, CoreLaws.CoreLaws, Due.{due, flows, gives, has_place, has_ticket, is_report, is_reported, is_ticket, is_ticketed, movable, may_move as could_move, takes, tries}, Headline.{BytesAndEndsHold, ClaimsByOwnTicket, ClosedHold, DirectionHolds, FailedAfter, FailedBy, Failure, FailuresHold, HeadlineHolds, ListenerHolds, Named, TakesOwnNotes, Throughout, TriedOnOwn, end_there, failed_with, failure_by, broken_by, given, given_by, has_generation, held_connection, is_movement, connection_moved, named, next_opened, preamble, socket_of}, LeadLaws.is_padded, Leads.{for_all, lead_at}, Memory.{free_length, grows}, Runs.run, Slots.{SlotState, WorkerState, is_by_worker, is_held}, States.{State, is_entry, numbers_below, opening, resting_worker, unused}, Steps.{acted, brings_ticket, call, change_at, claim, closed_world, connection_at, delivered, delivered_at, doing, free, free_after, heard, is_limited, listen, may_accept, opened_place, opened_world, over_kernel, polled, popped, post, post_at, posted, put_by_poller, release, retire, step, token_of, watched_of, with_note, with_place, with_ticket, with_worker}, Support.{EdgesHold, EndCovered, SupportHolds, TableHolds, has_report, is_covered, of_slot, one, tickets, total, tried, worker_tickets}, Words.{WordMoves, WordsMove, WordsMoveInRuns, word_after_kinds, kinds_at, claims, count_wakes, is_free, steps, word_at}, declared.{actors.{Doing.{Doing, TheVariants.{Closed, Holds, Idle, Retired, Tries}}, Holder.{Holder, TheVariants.{By, Free, Nobody}}, Ticket.Ticket}, connection.Connection.Connection, event.{Act.Act, Change.{Change, TheVariants.{Arrive, Fin, Reset, Room}}, Event.Event, Listening.Listening, Polling.Polling, Reported.Reported}, limits.Limits.Limits, past.Past.Past}}
 unfoldable pub use Rattle.world.specs.{Calls.called, Steps.{may_release, slot_call}}
 pub use Rattle.claims.specs.Words as words
 pub use Rattle.kernel_model.specs.Ends as model
