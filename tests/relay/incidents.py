@@ -94,7 +94,7 @@ def tells_that_a_target_does_not_answer():
             client.sendall(b"?")
             assert is_told(relay, r"live s=0 g=1 connected=no up=0 down=0 ring=1,0 ended=-,- waits=target-answers")
             assert " connect_us=- first_us=" in replay(relay.record, "--ends")
-            assert drawn(relay)["slot 0"][-1] == "target settle"
+            assert until(lambda: drawn(relay)["slot 0"][-1] == "target settle")
 
 
 def times(relay):
