@@ -101,7 +101,8 @@ def wakes_the_poller_of_a_freed_slot():
     relay = Relay(target(answer_and_read), slots=256, workers=2)
     clients, slow = served(relay, 256), 0
     for _ in range(20):
-        with clients.pop(0) as client:
+        # Its slot is not among the first 64 of its poller, of 128.
+        with clients.pop(200) as client:
             (waiting,) = asking(relay, 1)
             move_much(relay, client)
             before = time.monotonic()
