@@ -4,22 +4,13 @@
 //!
 //! - [`Front`] is where connections and reports come from. Its wires can [`Settle`], and it gives the addresses of a
 //!   client's connection ([`Route`]).
-//! - [`Shared`] is what all threads share, and [`Own`] what one thread owns: its seat at the claim words, its ends of
-//!   the two queues, and a [`Hand`] for what it puts later ([`put_tickets`], [`give_slots`]). Each [`Own`] is made from
-//!   [`Parts`].
+//! - [`Shared`] is what all threads share, and [`Own`] what one thread owns: its seat, its ends of the two queues, and
+//!   a [`Hand`] for what it puts later ([`put_tickets`], [`give_slots`]). Each [`Own`] is made from [`Parts`].
 //! - Each poller has [`HeavyMarks`], which say what tickets its thread leaves to the workers.
 //! - [`Acts`] and [`Moves`] are the acts of a thread at a slot. The clauses of a turn and of an opening name the acts
 //!   that they make, in order. Only [`Moves`] reaches the [`Places`], where connections ([`Berth`]) wait between turns.
 //! - [`Gate`] is called around each turn's calls, by the act [`Gated::play`] alone. [`Clock`] shows the second, for the
 //!   idle limit ([`Timing`]).
-//!
-//! # Inside
-//!
-//! A berth goes only into an empty place. It is given back only if another berth is there, which stays (`fill`: `put`,
-//! `occupied`, `unchanged`).
-//!
-//! The statistics count a turn and an end by the pair's own counts and verdict ([`moved_by`], [`ended_by`]).
-//! [`Shared::count`] says in its clause what it counts, and at which slot, over any [`Counting`].
 #![tactic(auto)]
 
 mod acts;

@@ -2,15 +2,11 @@
 //! standard input and output, and replays recordings.
 //!
 //! [`act`] does all of that: it gets the arguments ([`arguments`]), a reader, two writers and a closure that serves,
-//! and returns a status. The crate `commands` reads which command the arguments name. `running` makes what a relay
-//! serves with ([`Given`]): `passed` finds a socket that the program was started with, [`config`] reads its settings,
-//! `extras` the other options, and `starting` looks at what these need. [`Beside`] starts and ends what runs beside the
-//! server: [`logging`] has the relay's log, `telling` its statistics, which `stats_file` writes for a monitor, and
-//! `until_eof` the end of its standard input. `streams` logs what is wrong with an input, an output, a file or a
-//! script.
-//!
-//! `report_fault` (`status_of` of `specs/Faults.antt`) and `answer_usage` give the statuses that `relayd(1)` names
-//! (EXIT STATUS); `simulate` says by the status whether the report or a fault's line was written (`report`, `refused`).
+//! and returns a status. `commands` reads which command the arguments name. `running` makes what a relay serves with
+//! ([`Given`]): `passed` finds a socket that the program was started with, [`config`] reads its settings, `extras` the
+//! other options, and `starting` looks at what these need. [`Beside`] starts and ends what runs beside the server:
+//! [`logging`] has the relay's log, `telling` its statistics, which `stats_file` writes for a monitor, and `until_eof`
+//! the end of its standard input. `streams` logs what is wrong with an input, an output, a file or a script.
 #![tactic(auto)]
 
 mod acting;

@@ -1,6 +1,16 @@
 //! The queues between the threads of a relay: one of tickets for the slots that have work, and one of free slots.
 //!
-//! Each value of a queue is one thread's end of it. Any end may put and any may take, and no lock is held.
+//! Each value of a queue is one thread's end of it. Any end may put and any may take, and no lock is held. In the test
+//! `each_ticket_is_taken_once` (`queues.rt` of `core_tests`) two threads put and two take, at a queue with room for 8:
+//! ```
+//! let mut ends = ReadyQueue::new(rt.alloc(), 8, 32)?;
+//! if end.put(rt, ticket(slot, generation)).is_ok() { .. }
+//! match end.take(rt) {
+//!     Ok(ticket) => note(taker, ticket),
+//!     Err(_) => break,
+//! }
+//! ```
+//! `take` sleeps while there is no ticket, and refuses once the queue was closed (`close`) and then found empty.
 //!
 //! # The queue rule
 //!
@@ -12,41 +22,34 @@
 //! 3. The queue holds the items of the other places, in order.
 //! 4. The places of what one end has put rise, and so do those of what it has taken.
 //!
-//! So each ticket has been taken once or is still there, first in, first out. At one moment of a call that gives
-//! [`Full`] the queue was full, and of one that gives [`Empty`] it was empty: only such calls make these values
-//! (`moment.rt`). It is not proved that a call returns. Tests show it.
+//! So each ticket was taken once or is there, first in, first out. At one moment of a call that gives [`Full`] the
+//! queue was full, and of one that gives [`Empty`] it was empty (`moment.rt`). Only tests show that a call returns.
 //!
 //! # How an end sleeps, and who wakes it
 //!
 //! One word has a bit for each end that is idle. An end that is about to park in [`ReadyQueue::take`] sets its bit,
 //! looks at the queue again, and only then parks. A put first pushes its ticket, and then clears the lowest bit that is
 //! set and unparks that end. So at most one end is woken for a ticket, and no ticket is left while all ends sleep:
-//! either the put finds the bit, or the end's second look finds the ticket. A ticket may wait for an end that is awake.
-//! [`laws`] says so of all ends together, act by act (`specs/Sleep.antt`).
+//! either the put finds the bit, or the end's second look finds the ticket. [`laws`] says so of all ends together, act
+//! by act (`specs/Sleep.antt`).
 //!
 //! After each `take` that gave a ticket, the end's first put wakes nobody: the end itself comes back, and takes one
 //! ticket. Each later put wakes an end, and so does each put of an end that never calls `take`. An end that has tickets
 //! to put may first look whether any end sleeps ([`ReadyQueue::all_busy`]).
-//!
-//! No thread spins.
 //!
 //! # Inside
 //!
 //! [`IdleEnds`] has all of this for any place that items are put into ([`Put`]) and looked at ([`Source`]): the queue
 //! of tickets, and the queues of `writer_queue` with the writer as their one end that takes.
 //!
-//! The order of the steps is kept by values that only the step before gives (`steps.rt`). A put that has put its item
-//! has a wake (`push`), unless its own end comes back (`End`: `wakes`). A wake can be neither copied nor dropped
-//! (`Wake`): it unparks the one end whose bit it cleared (`wake`), or one look found no bit (`look_for`); each gives
-//! [`Spent`], which a put returns. So an end is woken only once its item was put, or `close` has set its mark
-//! (`wake_all`). `take` refuses only if it read that mark and then looked in vain at this queue ([`Drained`]). An end
-//! has a bit and a parker of its own ([`EndNumber`]). It announces that it is idle only if it read that the queue was
-//! open and then looked in vain (`announce`: `open`), and sleeps once for each announcement, at its parker, only after
-//! it looked in vain again (`look`, `sleep`: `parked`). Then it clears its bit (`rise`). Its next put counts on it to
-//! come back exactly if its last `take` gave a ticket and it has put nothing since (`End`: `wakes`, `comes_back`). The
-//! word has no step but a read, and to set or clear bits at once (`Bits`), and each says what it found (`cleared`,
-//! `looked`). A close gives a value that only the mark and a wake of every end make ([`Closed`]). An end that found an
-//! item passes a wake on that was spent on it (`withdraw`); one that slept looks again.
+//! The order of the steps is kept by values that only the step before gives (`steps.rt`). A `Wake`, which can be
+//! neither copied nor dropped, is made only once an item was put (`push`), or `close` has set its mark (`wake_all`),
+//! and becomes [`Spent`]: it unparked the end whose bit it cleared (`wake`), or one look found no bit (`look_for`). An
+//! end has a bit and a parker of its own ([`EndNumber`]). It announces that it is idle only if it read that the queue
+//! was open and then looked in vain (`announce`: `open`), sleeps once for each announcement, after it looked in vain
+//! again (`look`, `sleep`: `parked`), and then clears its bit (`rise`). Its next put counts on it to come back exactly
+//! if its last `take` gave a ticket and it has put nothing since (`comes_back`). An end that found an item passes a
+//! wake on that was spent on it (`withdraw`); one that slept looks again.
 #![tactic(auto)]
 
 mod end;

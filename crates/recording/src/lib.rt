@@ -2,19 +2,17 @@
 //! separate thread writes the records to a file.
 //!
 //! A server is made of parts that record: [`RecordedFront`] records waits for reports, accepts and openings;
-//! [`RecordedWire`] records calls and drops; [`RecordedGate`] records where turns begin and end; [`RecordedClock`]
-//! records what second was read. Each does and promises what the part in it does and promises. Of bytes only the
-//! number is recorded.
+//! [`RecordedWire`] calls and drops; [`RecordedGate`] where turns begin and end; [`RecordedClock`] what second was
+//! read. Each does and promises what the part in it does and promises. Of bytes only the number is recorded.
 //!
 //! A thread that records waits for nobody, and takes no memory: it puts its record into a bounded queue
-//! ([`RecordQueue`]), and wakes a writer that sleeps ([`write_records`]). If a queue is full, the recording ends, or in
-//! parts this part: its last line says so, a warning is logged, and the relay serves on.
+//! ([`RecordQueue`]), and wakes a writer that sleeps ([`write_records`]).
 //!
 //! # Inside
 //!
-//! A [`Recorder`] makes all records but the last, over any [`Sink`]. A part in an `Inner` acts only with a `Begun`:
-//! the count before the act, which cannot be dropped. So each act comes after its count, and is recorded. That a wire
-//! was closed is recorded by what its drop returns (`Gone`).
+//! A [`Recorder`] makes all records but the last, over any [`Sink`]. A part in an `Inner` acts only with a `Begun`: the
+//! count before the act, which cannot be dropped. So each act comes after its count, and is recorded. That a wire was
+//! closed is recorded by what its drop returns (`Gone`).
 #![tactic(auto)]
 
 mod clock;

@@ -1,16 +1,17 @@
-//! The core of the relay as a pure value: which call comes next on which of a connection's two sockets, and what each
-//! answer does.
+//! The core as a pure value: which call comes next on which of a connection's two sockets, and what each answer does.
 //!
-//! A [`Pair`] is one connection. It makes no calls itself. Its owner asks for the [`Pair::next`] call, makes it, and
-//! gives the [`Answer`] back:
-//!
-//! - a write offers the rest of the lead, or if none is left, the whole ring of its direction ([`Pair::offer`]);
-//! - once a source has ended and every byte has left, sending is shut down on the destination's socket. The other
-//!   direction goes on. If no call has shown yet that this socket is connected, the pair asks that first;
-//! - a read asks for at most what the ring has room for.
-//!
+//! A [`Pair`] is one connection. It makes no calls itself. Its owner asks for the next call, makes it, and gives the
+//! [`Answer`] back, as `turn_with` and `step` of `engine`, here for a read (run by `session.rt` of `core_tests`):
+//! ```
+//! let Some(call) = pair.next() else { .. };
+//! match wire.read(&mut buffer[..most]) {
+//!     Ok(0) => pair.answer(Call::Read(side, most), Answer::End, now),
+//!     Ok(count) => pair.answer(Call::Read(side, most), Answer::Bytes(&buffer[..count]), now),
+//!     Err(error) => ..
+//! }
+//! ```
 //! Only the answer "would block", never a short count, keeps a call from being tried again before the next report
-//! ([`Pair::note`], epoll(7)). When nothing is left to try, `next` returns None.
+//! ([`Pair::note`], epoll(7)). `docs/work/ARCHITECTURE.md` follows one byte ("The relay in one file").
 //!
 //! A pair may be made with a lead: bytes that the target is sent before the client's own, as [`proxy_line`] makes them.
 //! [`Pair::expire`] fails a pair that has moved nothing for the idle limit, and has nothing left to try.

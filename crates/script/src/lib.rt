@@ -1,15 +1,12 @@
-//! The simulator: it takes a script of steps, and gives a report of the state after them, as `FORMATS.md`
-//! describes both.
+//! The simulator: it takes a script of steps, and gives a report of the state after them, as `FORMATS.md` has both.
 //!
 //! [`parse`] reads the whole text before the first step is made, [`Script::carry_out`] makes the steps one by one, and
 //! [`Reached::report`] is the report. [`run`] does all three, from a reader to a writer; [`run_each`] writes what is
 //! new in the report after each step.
 //!
 //! A script that has a fault gives one line in place of the report, and [`run`] passes its cause, which says more, to
-//! its [`Causes`]. A [`Simulator`] does what `run` and `run_each` do.
-//!
-//! What a line says is the crate `script_text`, and what is printed of a world `world_text`. `specs/` has definitions:
-//! `Scripts` for the text, `Transfers` and `Runs` for the steps, what is written, and what holds for every run.
+//! its [`Causes`]. A [`Simulator`] does what `run` and `run_each` do. What a line says is the crate `script_text`, and
+//! what is printed of a world `world_text`.
 #![tactic(auto)]
 
 mod causes;

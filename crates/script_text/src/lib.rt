@@ -3,9 +3,6 @@
 //! [`Lines`] gives the lines of a text that are not skipped; their words are pieces of `input`. [`read_header`] reads
 //! the first line, and [`read_step`] or [`read_event`] each other line, by what the header covers. If a line cannot be
 //! read, [`Wrong`] is the first word from the left that is wrong, with what is expected there.
-//!
-//! The crate `world_text` has what is written of a world, and the words by which lines begin. `specs/` has
-//! definitions: `Texts` for lines and words, `Headers` and `Events` for what they say.
 #![tactic(auto)]
 
 mod events;

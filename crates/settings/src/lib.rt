@@ -1,9 +1,16 @@
 //! The settings of a relay: what a TOML text sets, or the first thing that is wrong in it.
 //!
-//! `parse` reads a text. `Settings` has one field for each key and prints as `KEY=VALUE` lines, and `SettingsFault`
-//! prints as the line that a person sees. The table of the keys, with kinds, ranges and defaults, is in
-//! `src/table.rt`, and for the promises in `specs/Table.antt`. `cause` and `argument_cause` help a person to find a
-//! fault in a file or in a command line. `calls_for` says how many calls a turn makes at most.
+//! [`Settings`] has one field for each key and prints as `KEY=VALUE` lines, and [`SettingsFault`] prints as the line
+//! that a person sees; [`cause`] and [`argument_cause`] help to find it. So `read` of `program` (`config.rt`), for each
+//! row of `tests/program/settings`:
+//! ```
+//! match settings::parse(alloc, text.as_slice()) {
+//!     Ok(settings) => Ok(settings),
+//!     Err(fault) => {
+//!         log_cause(log, alloc, path, text.as_slice(), &fault);
+//! ```
+//! The table of the keys, with kinds, ranges and defaults, is in `src/table.rt`, and for the promises in
+//! `specs/Table.antt`. [`calls_for`] says how many calls a turn makes at most.
 #![tactic(auto)]
 
 mod addresses;

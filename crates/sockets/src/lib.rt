@@ -11,11 +11,9 @@
 //! # Inside
 //!
 //! An event names reading if it says that something can be read, or that the socket has failed or was closed
-//! (`names_reading`). Such an event sets the word of the end that its number names, if any (`Reporter::pass_on`:
-//! `heard`). A socket is registered under its token's number, with that token's word (`watch`: `registered`). A poll
-//! waits once, for as long as is asked for, and passes on all that the wait gave (`poll`: `once`). `bind` asks the
-//! system to listen at the settings' address and no other (`listen`). A socket that was passed is looked at before it
-//! is used (`look_at`). A client is connected to the address that its front shows as the target (`Dial`: `dialled`).
+//! (`names_reading`). It sets the word of the end that its number names, if any (`Reporter::pass_on`: `heard`): a
+//! socket is registered under its token's number, with that token's word (`watch`: `registered`). A socket that was
+//! passed is looked at before it is used (`look_at`).
 #![tactic(auto)]
 
 mod bound;

@@ -1,9 +1,15 @@
 //! The types that every layer of the relay shares, and the names that stand in reports, each packed into one number.
 //!
-//! A connection has two [`Side`]s and two [`Direction`]s, and a call on one of its sockets fails with a [`Kind`].
-//! A [`Token`] names one end of a connection: by the slot, the side and the slot's generation. The generation tells a
+//! A connection has two [`Side`]s and two [`Direction`]s, and a call on one of its sockets fails with a [`Kind`]. A
+//! [`Token`] names one end of a connection: by the slot, the side and the slot's generation. The generation tells a
 //! report for this connection from a late report for an earlier connection in the same slot. epoll(7) is given each
-//! [`Name`] as a number ([`Name::number`], [`unpack`]).
+//! [`Name`] as a number. The test `numbers` (`values.rt` of `core_tests`), of a row with all four:
+//! ```
+//! match Token::pack(slot, side, generation) {
+//!     Ok(token) => token.value() == number && unpack(number) == Some(Name::End(token)),
+//!     Err(_) => false,
+//! }
+//! ```
 #![tactic(auto)]
 
 mod direction;

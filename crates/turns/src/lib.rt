@@ -3,20 +3,12 @@
 //! its rounds itself ([`own_turn`]), and puts the others into the queue ([`share_tickets`]).
 //!
 //! One thread at a time holds a slot (`claims`), so a connection's two sockets and its pair are never touched by two
-//! threads at once, and no note is lost between them. What a thread is lent for its turns is in `common`; `rounds`
-//! makes the tickets.
+//! threads at once, and no note is lost between them. What it is lent is in `common`; `rounds` makes the tickets.
 //!
 //! # Inside
 //!
-//! - A turn touches words, places, queues and what sockets hold back only by its acts ([`Acts`](common::Acts),
-//!   [`Moves`](common::Moves)), and makes these in the order of its program (`acts_of` of `specs/Turns.antt`). Its gate
-//!   hears of it by one of these alone ([`Gated::play`](common::Gated::play)): no body here knows that `G` is a gate.
-//! - A place is reached by these acts alone (`Places`). What a turn found there, how it played that, and what it put
-//!   back or closed is said of its acts (`Handles` and `PlaysAt` of `specs/Turns.antt`). It plays a connection only if
-//!   both the slot and the generation are the ticket's (`run`: `own`).
-//! - The connection that is put back or closed is the one that was taken out (`Visit`, which cannot be dropped). Its
-//!   bytes, or its end, are counted at its slot (`counted`). What is put back after Quiet has two wires that hold
-//!   nothing back (`rest`: `done`).
+//! - A turn plays a connection only if both the slot and the generation are the ticket's (`run`: `own`). What is put
+//!   back or closed is what was taken out (`Visit`). Its bytes, or its end, are counted at its slot (`counted`).
 //! - A slot is released once for each `Back`, which says that no connection of it is out of its place (`leave`:
 //!   `back`). A ticket is put, and a slot is given back, once the seat no longer holds the slot (`put_ticket`:
 //!   `released`; `give_back`: `retired`), and a slot only once its connection is closed (`Closed`). Then the poller is

@@ -1,11 +1,8 @@
 //! What is written of a world and of its events, as `FORMATS.md` describes it.
 //!
-//! [`print`] gives the report of a world, [`Outline`] the lines of a report that an event changes, and
-//! [`event_reason`] why an event is not allowed. [`put_header`] and [`put_event`] add lines of a script to a [`Page`],
-//! on which all these texts are written; [`Word`] is the first word of such a line. [`Counts`] counts events by kinds.
-//!
-//! `specs/` has definitions: `Words` for first words; `WorldReports` for the report, and `Pages` for its parts and for
-//! what adds to a page.
+//! [`print`] gives the report of a world, [`Outline`] the lines of a report that an event changes, and [`event_reason`]
+//! why an event is not allowed. [`put_header`] and [`put_event`] add lines of a script to a [`Page`], on which all
+//! these texts are written; [`Word`] is the first word of such a line. [`Counts`] counts events by kinds.
 #![tactic(auto)]
 
 mod changes;

@@ -1,13 +1,15 @@
 //! A log that never stops the thread that logs: finished lines wait in a bounded queue, and one thread of their own
-//! writes them to standard error.
+//! writes them to standard error, in the order in which each thread logged them.
 //!
 //! A thread that logs prints its line into the queue ([`Queued`]). That takes no memory, and no system call but the one
 //! that wakes a writer that sleeps. If the queue is full, because whoever reads standard error is slow or gone, the
-//! line is left out and counted. [`write_lines`] writes the lines, in the order in which each thread logged them, and
-//! how many were left out:
-//!
-//! ```text
-//! [WARN  relayd] log: 312 lines left out
+//! line is left out and counted, and a line says how many were. So in each relay of `tests/relay` (`start`, `finish` of
+//! `logging.rt` and `log` of `running.rt`, in `program`):
+//! ```
+//! let queue = Arc::new(alloc, LogQueue::new(alloc, form)?)?;
+//! write_lines(&rt, &lines);              // the thread that writes, with a clone of the queue
+//! let inner = Queued { rt, queue };      // the log of all others
+//! queue.close();                         // the writer ends once it found the queue empty
 //! ```
 //!
 //! # Inside
