@@ -1,6 +1,6 @@
 //! One turn of a connection over real calls: a [`Pair`](relay_core::Pair) is asked for its next call, the call is made
 //! on one of two [`Wire`]s, and the pair gets the answer, up to a budget of calls. In the test
-//! `goes_on_waits_or_fails_before_a_write` (`session.rt` of `core_tests`) it is 9, over two wires in memory:
+//! `goes_on_waits_or_fails_before_a_write` (`session.rt` of `core_tests`) that is 9, over two wires in memory:
 //! ```
 //! let mut pair = Pair::new(alloc, 0, 1, 4, 0, b"")?;
 //! let _outcome = turn(&mut pair, &mut client, &mut target, 9, 0, 0);

@@ -8,8 +8,8 @@
 //! if self.attention.reads() { return true; }
 //! let told = self.stream.is_told();
 //! self.attention.look(told);    // it reads again if a report named reading
-//! self.attention.rest();        // a read would block
-//! self.attention.wake();        // a call failed
+//! Class::Blocked if call == CallKind::Read => self.attention.rest(),
+//! Class::Failed(_) => { self.attention.wake(); .. }
 //! ```
 //! [`laws`] says that this misses nothing, over an end of the modelled kernel, in every order of the steps of the
 //! network, the system, the poller and the wire.

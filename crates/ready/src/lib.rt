@@ -5,7 +5,7 @@
 //! ```
 //! let mut ends = ReadyQueue::new(rt.alloc(), 8, 32)?;
 //! if end.put(rt, ticket(slot, generation)).is_ok() { .. }
-//! match end.take(rt) {
+//! match taker.end.take(rt) {
 //!     Ok(ticket) => note(taker, ticket),
 //!     Err(_) => break,
 //! }

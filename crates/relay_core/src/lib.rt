@@ -1,7 +1,7 @@
 //! The core as a pure value: which call comes next on which of a connection's two sockets, and what each answer does.
 //!
-//! A [`Pair`] is one connection. It makes no calls itself. Its owner asks for the next call, makes it, and gives the
-//! [`Answer`] back, as `turn_with` and `step` of `engine`, here for a read (run by `session.rt` of `core_tests`):
+//! A [`Pair`] is one connection. It makes no calls itself. Its owner asks for the next call ([`Pair::next`]), makes it,
+//! and gives the [`Answer`] back. So `turn_with` and `read` of `engine`, run by `session.rt` of `core_tests`:
 //! ```
 //! let Some(call) = pair.next() else { .. };
 //! match wire.read(&mut buffer[..most]) {
@@ -10,8 +10,9 @@
 //!     Err(error) => ..
 //! }
 //! ```
-//! Only the answer "would block", never a short count, keeps a call from being tried again before the next report
-//! ([`Pair::note`], epoll(7)). `docs/work/ARCHITECTURE.md` follows one byte ("The relay in one file").
+//! A write offers what [`Pair::offer`] lends. Only the answer "would block", never a short count, keeps a call from
+//! being tried again before the next report ([`Pair::note`], epoll(7)). `ARCHITECTURE.md` follows one byte ("The relay
+//! in one file").
 //!
 //! A pair may be made with a lead: bytes that the target is sent before the client's own, as [`proxy_line`] makes them.
 //! [`Pair::expire`] fails a pair that has moved nothing for the idle limit, and has nothing left to try.

@@ -6,8 +6,8 @@
 //! ```
 //! match settings::parse(alloc, text.as_slice()) {
 //!     Ok(settings) => Ok(settings),
-//!     Err(fault) => {
-//!         log_cause(log, alloc, path, text.as_slice(), &fault);
+//!     Err(fault) => { log_cause(log, alloc, path, text.as_slice(), &fault); .. }
+//! }
 //! ```
 //! The table of the keys, with kinds, ranges and defaults, is in `src/table.rt`, and for the promises in
 //! `specs/Table.antt`. [`calls_for`] says how many calls a turn makes at most.
