@@ -3,7 +3,7 @@
 //! ```
 //! flow: Flow::new(alloc, ring, &[])?,
 //! self.flow.take_in(bytes);        // they were read at the source, and enter at the back
-//! self.flow.drop_front(*count);    // a write took so many of what `front` lends; they leave in the same order
+//! self.flow.drop_front(*count);    // a write took this many of what `front` lends; they leave in order
 //! self.flow.mark_end();            // the source has ended, and nothing more enters
 //! self.flow.mark_shut();           // every byte has left, and the end was passed on (shutdown(2))
 //! ```
