@@ -7,10 +7,12 @@ use std::io;
 use std::sync::Wait;
 use writer_queue::Drain;
 
-/// Writes the header, then the records, each queue's in order, until the queues are closed and empty, and then the
-/// last record: into files of at most `most` bytes ([`Lines`]). If records were lost, and the recording goes on in
-/// another part, it first writes all that waits, and then that some are lost. It flushes before it rests, and takes no
-/// memory. If a file cannot be written, the recording ends: that is logged, and what was written stays.
+/// Writes the header, then the records, each queue's in order, until the queues are closed and then found empty, and
+/// then the last record: that all is recorded, or that some were lost. [`RecordQueue::close`] closes the queues, and so
+/// does a record that finds no room, unless the recording goes on in another part: then it first writes all that waits,
+/// then that some are lost, and what follows is in the next file. A file has at most `most` bytes ([`Lines`], where the
+/// clauses are). It flushes before it rests, and takes no memory. If a file cannot be written, the recording ends: that
+/// is logged, unless lost records had ended it, and what was written stays. One thread calls this, once for a queue.
 pub fn write_records<R: Wait + Log, P: Parts>(
     rt: &R,
     queue: &RecordQueue,

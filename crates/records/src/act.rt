@@ -27,7 +27,7 @@ pub enum Act {
     Wire(Token, Made),
     /// The relay ended, and everything is recorded. This is the last record.
     Ended,
-    /// A record found no room. This is the last record.
+    /// A record found no room. This is the last record, or in parts the last of its part.
     Full,
 }
 

@@ -84,7 +84,7 @@ ListenerKept old new =
 abbrev pub ListensToOpen : PollerState → Type 0
 ListensToOpen p = HasOpenedAll p → p.seen.listens ≡ false
 
--- why no connection can be accepted now: the flag is down, or no slot is free, or the poller has opened all that it may
+-- why no connection can be accepted now: the flag is down, no free slot is in hand, or the poller has opened all that it may
 abbrev pub NoneToAccept : PollerState → Own → Type 0
 NoneToAccept p own = (p.accepting ≡ false) ⊎ (NoSlot own ⊎ HasOpenedAll p)
 
@@ -161,10 +161,10 @@ WaitedAsMay limit old new had has =
     ⊎ (((new.seen.waited ≡ 1) × MayWaitBriefly limit old had)
     ⊎ ((new.seen.waited ≡ 0) × MayNotWait limit old had has))
 
--- a client waits for a slot: the listener was reported, and the poller may open more, but no slot is free
+-- a client waits for a slot: the listener was reported, and the poller may open more, but no free slot is in hand
 pub record IsFull (p : PollerState) (own : Own) : Type 0 where
   pub reported : Contains p.batch 0
-  pub left : HasOpenedAll p → ⊥
+  pub may_open : HasOpenedAll p → ⊥
   pub slot : NoSlot own
 
 -- each of the poller's slots is in hand or no longer used

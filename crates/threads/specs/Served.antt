@@ -26,7 +26,8 @@ abbrev pub worker_part : ℕ → Owned → WorkerPart
 worker_part number owned = record { number = number; owned = owned }
 
 -- A server with these pollers, this many workers, and these ends of free queues is divided so: each part has a number and a
--- fresh seat, each poller an end of its own free queue, and each worker an end of every one. The last poller's part is first
+-- fresh seat, each poller an end like one of its own free queue, and each worker one for every queue (an end does not show which
+-- queue it is of). The last poller's part is first
 pub record IsDivided (fresh : SeatState) (free : List (List (EndState ℕ))) (pollers : List PollerState) (workers : ℕ)
     (of_pollers : List PollerPart) (of_workers : List WorkerPart) : Type 0 where
   pub pollers_are : map (λ (p : PollerPart). (p.number, p.poller)) of_pollers ≡ numbered pollers

@@ -31,16 +31,21 @@ pub struct Server<F: Front> {
     pub free: Vec<Vec<FreeQueue>>,
     /// The pollers, in the order of their parts.
     pub pollers: Vec<Poller<F>>,
+    /// Which slots are which poller's: a part for each of `pollers`, for which no clause asks.
     pub split: Split,
+    /// How many workers there are to be.
     pub workers: usize,
     pub ghost seats: { AreFresh shared.claims parts.seats.items },
 }
 
-/// Runs a server. The calling thread is a poller's, all others are started here, and the call returns when all
-/// have ended. Once `is_stopped` is set, the server opens no more connections, and ends once all are closed.
+/// Runs a server, of one poller at least: with workers alone the call would not return. The calling thread is the first
+/// poller's, all others are started here, and the call returns when all have ended. Each poller looks at `is_stopped`
+/// before a round, and the first that finds it set wakes the others: whoever sets it has to wake one. Once it is found,
+/// or each poller has opened all that it may, no more connections are opened, and the server ends once all are closed.
 ///
-/// Refuses with `NoMemory`, before any thread has started, if there is none for what they need; else with `Threads` if
-/// one could not be started, or else with the fault that the lowest thread met: pollers come before workers.
+/// Refuses with `NoMemory`, before any thread has started, if memory, seats or ends of queues are too few for the
+/// threads; else with `Threads` if one could not be started, or else with the fault that the lowest thread met: pollers
+/// come before workers. In `ran`, `mark` is which mark is set once a fault is recorded.
 pub fn run_threads<'a, F, G, C, R, S>(
     rt: &'a R,
     alloc: Global,
