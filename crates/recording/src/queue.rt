@@ -174,7 +174,8 @@ impl RecordQueue {
         self.waiting.close();
     }
 
-    /// The last record: that some were lost, or that all is recorded. `_drained`: the queues were closed, then empty.
+    /// The last record: that some were lost, or that all is recorded, in parts all since the last gap. `_drained`: the
+    /// queues were closed and then found empty.
     pub(crate) fn last(&self, _drained: Drained) -> Record {
         let is_over = self.is_over();
         self.record_of(if is_over { Act::Full } else { Act::Ended })
