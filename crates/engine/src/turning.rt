@@ -25,8 +25,8 @@ pub struct Moment {
 ///
 /// All calls count as made at the second `now`. A live pair that is left without a call, and that has moved nothing for
 /// `limit` seconds, fails ([`Pair::expire`]). Bytes, an end that was read or passed on, and a connect that was found
-/// complete move it ([`Answer::moves`](relay_core::Answer::moves)). A limit of 0 never passes, and none does while `now`
-/// is before the last move.
+/// complete move it ([`Answer::moves`](relay_core::Answer::moves)). A limit of 0 never passes, and none does while
+/// `now` is before the last move.
 ///
 /// An error is a failure if the wire counted a fault, "would block" if it counted that, and else an interruption.
 pub fn turn<A: Wire, B: Wire>(

@@ -21,7 +21,7 @@ all_begun settings split number [] = []
 all_begun settings split number (shown ∷ more) = begun settings split number shown ∷ all_begun settings split (number + 1) more
 
 -- for each part of the slots, the ends of a queue that holds them in order, as many as one poller and all workers need. By the
--- first the slots were put. Which thread gets which is not said
+-- first, which need not become the poller's, the slots were put
 abbrev pub free_ends : Settings → Split → List (List (EndState ℕ))
 free_ends settings split = each_part split.slots split.size
     (λ part. opened part.first part.slots ∷ replicate settings.workers (unused part.slots))

@@ -48,7 +48,8 @@ pub record PollerRuns (said : Bool → Type 0) (tells : ℕ → Type 0) (gave_no
   pub own : Own
   pub made : RunMade said tells gave_none limit mark end.why part.poller part.own own
 
--- The parts that have threads of their own ran to their ends, in order: all, or if a thread could not be started, the first
+-- Of the parts that have threads of their own all ran to their ends, in the order of this list; or if a thread could not be
+-- started, the first of the list: of the workers the lowest numbers, of the pollers, whose last stands first, the highest
 abbrev pub RanToEnds : {P : Type 0} → (P → ThreadEnd → Type 0) → Option Few → List P → List ThreadEnd → Type 0
 RanToEnds {P} runs few parts ends = (left : List P) × OfFirst runs parts ends left × (few ≡ None → left ≡ [])
 

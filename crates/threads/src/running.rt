@@ -40,12 +40,16 @@ pub struct Server<F: Front> {
 
 /// Runs a server, of one poller at least: with workers alone the call would not return. The calling thread is the first
 /// poller's, all others are started here, and the call returns when all have ended. Each poller looks at `is_stopped`
-/// before a round, and the first that finds it set wakes the others: whoever sets it has to wake one. Once it is found,
-/// or each poller has opened all that it may, no more connections are opened, and the server ends once all are closed.
+/// before a round; one that finds it set, and might have opened more, wakes all. So whoever sets it has to wake every
+/// poller. One that finds it, or has opened all that it may, opens no more, and its front stops listening; the server
+/// ends once all connections are closed. `gate` hears that all threads were started, unless a fault is recorded by
+/// then: other threads may have run turns before.
 ///
-/// Refuses with `NoMemory`, before any thread has started, if memory, seats or ends of queues are too few for the
-/// threads; else with `Threads` if one could not be started, or else with the fault that the lowest thread met: pollers
-/// come before workers. In `ran`, `mark` is which mark is set once a fault is recorded.
+/// Refuses with `NoMemory`, before any thread has started, if memory is short, if there are fewer seats or ends of
+/// queues than threads, or if a poller's table is not as long as there are slots. Once threads run, the first fault
+/// ends all of them, and cuts what is open. The fault is then `Threads` if a thread could not be started, or else that
+/// of the lowest thread that met one: pollers come before workers. In `ran`, `mark` is which mark is set once a fault
+/// is recorded.
 pub fn run_threads<'a, F, G, C, R, S>(
     rt: &'a R,
     alloc: Global,
