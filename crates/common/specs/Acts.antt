@@ -51,7 +51,7 @@ open_slot = Register ∷ placing
 abbrev pub leaving : Bool → List Act
 leaving woke = Release ∷ (if woke then PutTicket ∷ [] else [])
 
--- another thread holds the slot
+-- another thread holds the slot, or it is free
 abbrev pub busy_turn : List Act
 busy_turn = Claim ∷ []
 

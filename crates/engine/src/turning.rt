@@ -13,7 +13,7 @@ use relay_core::{MAX_READ, Pair, Side, Verdict};
 pub struct Moment {
     /// The second of the turn.
     pub second: u64,
-    /// A connection that moved nothing for this many seconds, and has no call worth trying, fails. 0: never.
+    /// A live connection that moved nothing for this many seconds, and has no call worth trying, fails. 0: never.
     pub limit: u64,
 }
 
@@ -23,8 +23,10 @@ pub struct Moment {
 /// Each wire gets exactly the calls that the pair asks for on its side, in order and once each. A read asks for as many
 /// bytes as the pair does, and a write offers all that the pair offers that side ([`Pair::offer`]).
 ///
-/// All calls count as made at the second `now`. A pair that is left without a call, and that has moved nothing for
-/// `limit` seconds, fails ([`Pair::expire`]). A limit of 0 never passes.
+/// All calls count as made at the second `now`. A live pair that is left without a call, and that has moved nothing for
+/// `limit` seconds, fails ([`Pair::expire`]). Bytes, an end that was read or passed on, and a connect that was found
+/// complete move it ([`Answer::moves`](relay_core::Answer::moves)). A limit of 0 never passes, and none does while
+/// `now` is before the last move.
 ///
 /// An error is a failure if the wire counted a fault, "would block" if it counted that, and else an interruption.
 pub fn turn<A: Wire, B: Wire>(
@@ -45,8 +47,9 @@ pub fn turn<A: Wire, B: Wire>(
     turn_with(pair, client, target, budget, moment, &mut [0; MAX_READ])
 }
 
-/// [`turn`] at a moment, with an array into which the wires read. A thread keeps one array for all its turns, and need
-/// not clear it.
+/// Does what [`turn`] does, at `moment.second` for `now` and with `moment.limit` for `limit`; the wires read into
+/// `buffer`. It refuses nothing, since an error of a call is an answer to the pair, and closes no wire. A thread keeps
+/// one array for all its turns, and need not clear it.
 pub fn turn_with<A: Wire, B: Wire>(
     pair: &mut Pair,
     client: &mut A,

@@ -111,7 +111,7 @@ impl RecordQueue {
         }
     }
 
-    /// Ends the recording early. Returns false if a thread that records had.
+    /// Ends the recording early, and closes the queues. Returns false if a record that found no room had ended it.
     pub(crate) fn stop(&self) -> bool {
         let is_first = self.breaks.fetch_or(1, SeqCst) % 2 == 0;
         self.waiting.close();
@@ -174,7 +174,8 @@ impl RecordQueue {
         self.waiting.close();
     }
 
-    /// The last record. `_drained`: the queues were closed and then found empty.
+    /// The last record: that some were lost, or that all is recorded, in parts all since the last gap. `_drained`: the
+    /// queues were closed and then found empty.
     pub(crate) fn last(&self, _drained: Drained) -> Record {
         let is_over = self.is_over();
         self.record_of(if is_over { Act::Full } else { Act::Ended })

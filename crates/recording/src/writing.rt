@@ -7,10 +7,14 @@ use std::io;
 use std::sync::Wait;
 use writer_queue::Drain;
 
-/// Writes the header, then the records, each queue's in order, until the queues are closed and empty, and then the
-/// last record: into files of at most `most` bytes ([`Lines`]). If records were lost, and the recording goes on in
-/// another part, it first writes all that waits, and then that some are lost. It flushes before it rests, and takes no
-/// memory. If a file cannot be written, the recording ends: that is logged, and what was written stays.
+/// Writes the header, then the records, each queue's in order, until the queues are closed and then found empty, and
+/// then the last record: that all is recorded (in parts, all since the last gap), or that some were lost.
+/// [`RecordQueue::close`] closes the queues. A record that finds no room closes them, too, unless the recording is
+/// `in_parts`: then the writer writes all that waits, and that some are lost, and what follows is the next part, in the
+/// next file. A file has at most `most` bytes, or 1,024 if that is more ([`Lines`], where the clauses are). It flushes
+/// before it rests and after the last record, and takes no memory. If a file cannot be written, the recording ends:
+/// that is logged, unless lost records had ended it, and what was written stays. What waits is dropped then, and each
+/// act that begins from then on is counted as lost. One thread calls this, once for a [`RecordQueue`].
 pub fn write_records<R: Wait + Log, P: Parts>(
     rt: &R,
     queue: &RecordQueue,

@@ -25,9 +25,9 @@ pub enum Act {
     End(usize),
     /// This was done with the wire of an end.
     Wire(Token, Made),
-    /// The relay ended, and everything is recorded. This is the last record.
+    /// The relay ended, and everything is recorded, in parts everything since the last gap. This is the last record.
     Ended,
-    /// A record found no room. This is the last record.
+    /// A record found no room. This is the last record, or in parts the last of its part.
     Full,
 }
 

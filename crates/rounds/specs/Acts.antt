@@ -127,7 +127,7 @@ all_opened table = opened_below table (length table)
 abbrev pub is_due : ℕ → PollerState → Bool
 is_due limit p = is_past p.second limit p.swept
 
--- the second of the last sweep, after a look at this second: it is this one if the limit has passed since the last
+-- what counts as the second of the last sweep: `second`, if the limit had passed by then since `last`, else `last`
 abbrev pub swept_after : ℕ → ℕ → ℕ → ℕ
 swept_after limit second last = if is_past second limit last then second else last
 

@@ -17,7 +17,7 @@ pub record PollerState : Type 0 where
   pub accepting : Bool
   -- accept(2) was starved at its last answer
   pub starved : Bool
-  -- the last round left a client to other pollers
+  -- the last round that came to accept left a client to other pollers
   pub left : Bool
   -- how many tries of accept(2) the last round left over
   pub tries : ℕ
@@ -37,7 +37,7 @@ pub record PollerState : Type 0 where
   pub second : ℕ
   -- the second of the last sweep, at first that at which the poller began
   pub swept : ℕ
-  -- whether it makes no more rounds
+  -- whether the last look found all opened and every slot back: its thread then makes no more rounds
   pub over : Bool
   -- conditions that are logged once while they last
   pub episodes : Episodes

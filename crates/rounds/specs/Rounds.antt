@@ -84,7 +84,8 @@ ListenerKept old new =
 abbrev pub ListensToOpen : PollerState → Type 0
 ListensToOpen p = HasOpenedAll p → p.seen.listens ≡ false
 
--- why no connection can be accepted now: the flag is down, or no slot is free, or the poller has opened all that it may
+-- why no connection can be accepted now: the flag is down, no free slot is in hand (the code alone says that the queue had none
+-- either), or the poller has opened all that it may
 abbrev pub NoneToAccept : PollerState → Own → Type 0
 NoneToAccept p own = (p.accepting ≡ false) ⊎ (NoSlot own ⊎ HasOpenedAll p)
 
@@ -161,10 +162,10 @@ WaitedAsMay limit old new had has =
     ⊎ (((new.seen.waited ≡ 1) × MayWaitBriefly limit old had)
     ⊎ ((new.seen.waited ≡ 0) × MayNotWait limit old had has))
 
--- a client waits for a slot: the listener was reported, and the poller may open more, but no slot is free
+-- a client waits for a slot: the listener was reported, and the poller may open more, but no free slot is in hand
 pub record IsFull (p : PollerState) (own : Own) : Type 0 where
   pub reported : Contains p.batch 0
-  pub left : HasOpenedAll p → ⊥
+  pub may_open : HasOpenedAll p → ⊥
   pub slot : NoSlot own
 
 -- each of the poller's slots is in hand or no longer used
@@ -182,7 +183,7 @@ LooksForAll p own = HasOpenedAll p → IsBack p own → p.over ≡ true
 
 -- A round that began, and whose poll did not fail. It delivered what its front reported, at a second that the clock may
 -- show. A sweep was made if one was due, accepting ended for a reason, the accept flag is up only by a report or as before,
--- it is down and accept(2) starved only by an answer or as before, and no drop is left to be logged at this second
+-- it is down and accept(2) starved only by an answer or as before, and drops are left only of causes that had a line this second
 pub record RoundEnded (tells : ℕ → Type 0) (gave_none : Unaccepted → Type 0) (limit : ℕ) (old new : PollerState)
     (has : Own) : Type 0 where
   pub read : new.batch ≡ new.seen.reported

@@ -26,22 +26,27 @@ const SPARE_ROOM: usize = 512;
 
 /// One round of the poller.
 ///
-/// If the hand has no room for a ticket of each slot and 512 more, only the batch is emptied. Else the tickets in hand
-/// stay there, before those of the round. The round asks once for reports and delivers them ([`deliver`]). It waits for
+/// If the hand has no room for a ticket of each slot of the relay and 512 more, the round does not begin: the answer is
+/// Ok, and only the batch is emptied. So tickets have to leave the hand between rounds. Else the tickets in hand stay
+/// there, before those of the round. The round asks once for reports and delivers them ([`deliver`]). It waits for
 /// reports only if no sweep is due and no ticket is in hand: for as long as its front waits, if no client can be
-/// accepted or accept(2) was starved; else for a millisecond at most, if the last round left a client to others. A
-/// sweep is due if, at the second that the last round read, an idle limit had passed since the last sweep, or since
-/// the poller began: the round then posts a note at each slot in which the poller ever opened a connection, in rising
-/// order. Then it reads its second. While a client may be waiting and a slot is free, it accepts and opens connections,
-/// with at most 4 calls of accept(2), until its front leaves a client to others.
+/// accepted (the accept flag is down, neither hand nor queue has a free slot, or all are opened) or accept(2) was
+/// starved; else for a millisecond at most, if the last round left a client to others. A sweep is due if, at the second
+/// that the last round read, an idle limit had passed since the last sweep, or since the poller began: the round then
+/// posts a note at each slot in which the poller ever opened a connection, in rising order. Then it reads its second.
+/// While a client may be waiting and a slot is free, it accepts and opens connections, with at most 4 calls of
+/// accept(2), until its front leaves a client to others.
 ///
 /// Once the poller has opened all that it may, its front no longer listens: from the start of a round, if that was so
-/// then, or else from the round's end.
+/// then, or else from the round's end. At that end it takes its free slots in hand, and is over ([`Poller::is_over`])
+/// if each of its slots is in hand or no longer used.
 ///
 /// An opened connection has the slot's next generation, one note, one ticket and no heavy marks, and is logged. If an
-/// opening fails, the connection is closed; the drop is logged or counted, and the slot is in hand, or the slot is no
-/// longer used. At its end the round logs the counted drops, once a second. If the listener was reported and no slot is
-/// free, the last poller to find that logs it.
+/// opening fails, the connection is closed, the drop is logged or counted, and the slot is in hand again; or its slot
+/// is no longer used, and the connection is closed without a line (no run comes to that). At its end the round logs the
+/// counted drops of each cause that had no line at its second; an opening logs them at once. A failed poll is logged,
+/// and what accept(2) lacks, once between openings. If the listener was reported and no slot is free, the last poller
+/// to find that logs it.
 ///
 /// Refusals: `Poll` if the wait for reports failed; the round then at most took free slots in hand and stopped
 /// listening. `Worn` exactly if the seat has posted 2^56 times at the end of any other round that began: a worn seat

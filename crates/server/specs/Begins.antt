@@ -20,7 +20,8 @@ abbrev pub all_begun : Settings → Split → ℕ → List Seen → List PollerS
 all_begun settings split number [] = []
 all_begun settings split number (shown ∷ more) = begun settings split number shown ∷ all_begun settings split (number + 1) more
 
--- for each part of the slots, the ends of a queue that holds them in order: one for its poller, one for each worker
+-- for each part of the slots, the ends of a queue that holds them in order, as many as one poller and all workers need. By the
+-- first, which need not become the poller's, the slots were put
 abbrev pub free_ends : Settings → Split → List (List (EndState ℕ))
 free_ends settings split = each_part split.slots split.size
     (λ part. opened part.first part.slots ∷ replicate settings.workers (unused part.slots))

@@ -26,9 +26,12 @@ pub fn split_of(settings: &Settings) -> Split
     Split::new(settings.slots, pollers)
 }
 
-/// A server as the settings say, with a poller for each part of the slots. `fronts` has the front of each, in the
-/// order of the parts. Each poller has its share of `stop_after`: these add up to it, and differ by one at most. A turn
-/// may make at least four calls, whatever `budget` says.
+/// A server as the settings say, with a poller for each part of `split`, so with one at least. Of addresses, log and
+/// idle limit it looks at none: the fronts and [`run_threads`](threads::run_threads) have these. `fronts` has the front
+/// of each, in the order of the parts. If `stop_after` is 0, each poller may open 2^64 - 1 connections; else each has a
+/// share of it: these add up to it, and differ by one at most. A turn may make at least four calls, whatever `budget`
+/// says. Nothing is counted, and clients are logged at level debug, until the caller sets `shared.statistics` and
+/// `shared.clients`.
 ///
 /// Refuses with `NoMemory` alone; then the fronts and the waker are dropped, and nothing is left.
 pub fn build<F: Front + Drop, R: Wait>(

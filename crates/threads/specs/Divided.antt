@@ -19,7 +19,7 @@ OfFirst is (part ∷ parts) (end ∷ ends) left = is part end × OfFirst is part
 abbrev pub numbered : {A : Type 0} → List A → List (ℕ × A)
 numbered pollers = reverse (enumerate_from 0 pollers)
 
--- this is one of the ends of the free queue of the poller with this number
+-- this is like one of the ends of the free queue of the poller with this number
 abbrev pub IsEndOf : List (List (EndState ℕ)) → ℕ → EndState ℕ → Type 0
 IsEndOf ends poller end = Contains (slice_index_or ends poller []) end
 

@@ -26,7 +26,8 @@ abbrev pub worker_part : ℕ → Owned → WorkerPart
 worker_part number owned = record { number = number; owned = owned }
 
 -- A server with these pollers, this many workers, and these ends of free queues is divided so: each part has a number and a
--- fresh seat, each poller an end of its own free queue, and each worker an end of every one. The last poller's part is first
+-- fresh seat, each poller an end like one of its own free queue, and each worker one for every queue (an end does not show which
+-- queue it is of). The last poller's part is first
 pub record IsDivided (fresh : SeatState) (free : List (List (EndState ℕ))) (pollers : List PollerState) (workers : ℕ)
     (of_pollers : List PollerPart) (of_workers : List WorkerPart) : Type 0 where
   pub pollers_are : map (λ (p : PollerPart). (p.number, p.poller)) of_pollers ≡ numbered pollers
@@ -47,7 +48,8 @@ pub record PollerRuns (said : Bool → Type 0) (tells : ℕ → Type 0) (gave_no
   pub own : Own
   pub made : RunMade said tells gave_none limit mark end.why part.poller part.own own
 
--- The parts that have threads of their own ran to their ends, in order: all, or if a thread could not be started, the first
+-- Of the parts that have threads of their own all ran to their ends, in the order of this list; or if a thread could not be
+-- started, the first of the list: of the workers the lowest numbers, of the pollers, whose last stands first, the highest
 abbrev pub RanToEnds : {P : Type 0} → (P → ThreadEnd → Type 0) → Option Few → List P → List ThreadEnd → Type 0
 RanToEnds {P} runs few parts ends = (left : List P) × OfFirst runs parts ends left × (few ≡ None → left ≡ [])
 

@@ -27,20 +27,33 @@ pub struct Server<F: Front> {
     pub shared: Shared<F>,
     /// For each thread a seat and an end of the queue of tickets.
     pub parts: Parts,
-    /// For each poller the ends of its free queue: one for its own thread, and one for each worker.
+    /// For each poller the ends of its free queue: one for its own thread, and one for each worker. All slots of its part
+    /// have to be in the queue, for which no clause asks: a poller is over once it finds them all there.
     pub free: Vec<Vec<FreeQueue>>,
     /// The pollers, in the order of their parts.
     pub pollers: Vec<Poller<F>>,
+    /// Which slots are which poller's. It has to have the part of each of `pollers`, for which no clause asks: by it
+    /// pollers are woken, and workers give slots back.
     pub split: Split,
+    /// How many workers there are to be.
     pub workers: usize,
     pub ghost seats: { AreFresh shared.claims parts.seats.items },
 }
 
-/// Runs a server. The calling thread is a poller's, all others are started here, and the call returns when all
-/// have ended. Once `is_stopped` is set, the server opens no more connections, and ends once all are closed.
+/// Runs a server. No clause asks for a poller, but there has to be one: workers alone have no ends of free queues, and
+/// are refused. The calling thread is the first poller's, all others are started here, and the call returns when all
+/// have ended. A poller looks at `is_stopped` before each round, and not while it waits for reports. So whoever sets it
+/// has to wake every poller afterwards: one that finds it set wakes the others only if it might have opened more
+/// itself. A poller that finds it set, or has opened all that it may, opens no more, and its front stops listening; the
+/// server ends once all connections are closed. `gate` hears that all threads were started, unless a fault is recorded
+/// by then: other threads may have run turns before.
 ///
-/// Refuses with `NoMemory`, before any thread has started, if there is none for what they need; else with `Threads` if
-/// one could not be started, or else with the fault that the lowest thread met: pollers come before workers.
+/// Refuses with `NoMemory`, before any thread has started, if memory is short, if there are fewer seats or ends of
+/// queues than threads, or if a poller's table is not as long as there are slots. Once threads run, the first fault
+/// ends all of them, and cuts what is open: `Poll` or `Worn` of a round, `Worn` of a turn, or `Threads`, of which
+/// `Poll` and `Threads` are logged. The fault of the outcome is `Threads` if a thread could not be started, or else
+/// that of the lowest thread that met one: pollers come before workers. In `ran`, `mark` is which mark is set once a
+/// fault is recorded.
 pub fn run_threads<'a, F, G, C, R, S>(
     rt: &'a R,
     alloc: Global,

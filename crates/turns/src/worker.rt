@@ -21,7 +21,8 @@ use std::sync::Wait;
 pub enum Worked {
     /// The slot was held or free, so its connection was left alone. The ticket is dropped.
     Busy,
-    /// The ticket's connection was not in the slot, or there is no such slot.
+    /// There is no such slot, and nothing was done; or the ticket's connection was not in it, and then the slot's notes
+    /// were thrown away, another connection was put back as it was, and the slot was released.
     Gone,
     /// The connection is done or has failed. Its sockets are closed, and its slot is free, if it has a next generation.
     Ended,
@@ -40,12 +41,15 @@ pub struct HandPut {
 
 /// Runs one turn of the connection that a ticket names.
 ///
-/// What is in hand is put first, until a queue refuses an item. Then the slot is claimed, the connection is taken out
-/// of its place, its notes are taken, which raise its flags, and it makes its calls on its two wires, `budget` at most,
-/// between the gate's two calls. A connection that is done or failed is logged and closed, its slot is given back
-/// unless its generation is the last one, and the poller is woken. Any other connection is put back, settled first if
-/// it has no call to make; with its budget spent a note is posted; and the slot is released. If the release finds
-/// notes, a ticket is put for them. What a queue refuses stays in hand.
+/// What is in hand is put first: the tickets into the ready queue, then the slots into `own.free`, until none of its
+/// kind is left or its queue refuses one. Then the slot is claimed, the connection is taken out of its place, its notes
+/// are taken, which raise its flags, and it makes its calls on its two wires, `budget` at most, between the gate's two
+/// calls. A connection that is done or failed is logged and closed, its slot is put into `own.free` unless its
+/// generation is the last one, and the poller is woken. So `own.free` has to be an end of the queue of the slot's
+/// poller, for which no clause asks. Any other connection is put back, settled first if it has no call to make; with
+/// its budget spent a note is posted; and the slot is released. If the release finds notes, this same ticket is put
+/// again, also after `Gone`. What a queue refuses stays in hand, and may fill up its room. The turn is counted in
+/// `shared.statistics`.
 ///
 /// A connection fails if it is left without a call and, by the turn's second, has moved nothing for the idle limit.
 ///
