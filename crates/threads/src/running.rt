@@ -27,8 +27,8 @@ pub struct Server<F: Front> {
     pub shared: Shared<F>,
     /// For each thread a seat and an end of the queue of tickets.
     pub parts: Parts,
-    /// For each poller the ends of its free queue: one for its own thread, and one for each worker. All slots of its part
-    /// have to be in the queue, for which no clause asks: a poller is over once it finds them all there.
+    /// For each poller the ends of its free queue: one for its own thread, and one for each worker. All slots of its
+    /// part have to be in the queue, for which no clause asks: a poller is over once it finds them all there.
     pub free: Vec<Vec<FreeQueue>>,
     /// The pollers, in the order of their parts.
     pub pollers: Vec<Poller<F>>,
