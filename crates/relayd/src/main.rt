@@ -25,7 +25,7 @@ fn main(rt: HostRuntime) -> ExitCode {
         let beside = Beside::start(rt, rt.stdin(), rt.stdout(), &mut given)?;
         let served = lent::serve(&beside.log(), &beside, given);
         let is_printed = beside.finish(&is_stuck);
-        served.into_result().and(Ok(is_printed))
+        served.into_result(&rt).and(Ok(is_printed))
     };
     ExitCode::from(act(rt, held.has_output(), &is_stuck, &serve))
 }

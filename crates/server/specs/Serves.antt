@@ -5,7 +5,7 @@ use Rattle.common.specs.{declared.front.Unaccepted.Unaccepted, Told.Seen}
 use Rattle.sizes.specs.{declared.split.Split.Split, Pollers.pollers_for, Splits.parts_of}
 use Rattle.settings.specs.declared.fields.Settings.{Settings}
 use Rattle.sockets.specs.Fronts.{IsAt}
-use Rattle.threads.specs.{declared.running.Served.Served, Served.{AllRan, IsDivided, PollerPart, PollerRuns, WorkerPart, WorkerRuns}}
+use Rattle.threads.specs.{declared.joining.Served.Served, Served.{AllRan, IsDivided, PollerPart, PollerRuns, WorkerPart, WorkerRuns}}
 use Rattle.server.specs.Begins.{all_begun, free_ends}
 
 -- the settings' slots are dealt to as many pollers as are for them

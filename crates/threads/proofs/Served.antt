@@ -1,6 +1,6 @@
 -- Ends of parts, in order.
 use Rattle.std.{proofs.{Common.{◌≡◌, ◌∙◌, List, [], ◌∷◌, ◌++◌, length, map, refl, sym, ap, arith}, lemmas.List.map-append}, specs.Prelude.{Option, None}}
-use Rattle.threads.specs.{declared.{context.ThreadEnd.ThreadEnd, faults.Few.Few, running.Served.Served}, Divided.OfFirst, Served.{AllRan, AreStarted, RanToEnds}}
+use Rattle.threads.specs.{declared.{context.ThreadEnd.ThreadEnd, faults.Few.Few, joining.Served.Served}, Divided.OfFirst, Served.{AllRan, AreStarted, RanToEnds}}
 
 -- the next one
 pub next_of_first : {P E : Type 0} (is : P → E → Type 0) (parts : List P) (ends : List E) (part : P) (left : List P) (end : E) → OfFirst is parts ends (part ∷ left) → is part end

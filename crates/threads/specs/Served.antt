@@ -5,7 +5,7 @@ use Rattle.ready.specs.Steps.{EndState}
 use Rattle.common.specs.declared.shared.Own.{Own}
 use Rattle.rounds.specs.Pollers.{PollerState}
 use Rattle.common.specs.declared.front.Unaccepted.{Unaccepted}
-use Rattle.threads.specs.{declared.{context.ThreadEnd.ThreadEnd, faults.Few.Few, running.Served.Served, working.Owned.Owned}, Divided.{HasOneOfEach, IsEndOf, OfFirst, ends_of, numbered}, Loops.{RunMade, WorkerEnded, fault_by}}
+use Rattle.threads.specs.{declared.{context.ThreadEnd.ThreadEnd, faults.Few.Few, joining.Served.Served, working.Owned.Owned}, Divided.{HasOneOfEach, IsEndOf, OfFirst, ends_of, numbered}, Loops.{RunMade, WorkerEnded, fault_by}}
 use Rattle.sizes.specs.declared.faults.ServerFault.{ServerFault, TheVariants.{Threads}}
 
 -- what a poller's thread begins with

@@ -11,8 +11,8 @@ use crate::working::{Owned, Worker};
 use common::{Front, Own, Parts, Shared};
 use ready::FreeQueue;
 use rounds::Poller;
-use sizes::{MAX_BATCH, ServerFault};
-use std::alloc::Global;
+use sizes::MAX_BATCH;
+use std::alloc::{AllocError, Global};
 use std::marker::Model;
 use std::sync::Arc;
 
@@ -40,11 +40,11 @@ impl Model for Rest {
 /// such queue, the first poller's first. A poller's thread has the poller's number, and the first is the last one here.
 /// The workers have the numbers after those.
 ///
-/// Refuses with `NoMemory` if memory or parts run out, or if a poller's table is not as long as there are slots.
+/// Refuses if memory or parts run out, or if a poller's table is not as long as there are slots.
 pub fn divide<F: Front + Drop>(
     alloc: Global,
     server: Server<F>,
-) -> Result<(Vec<PollerThread<F>>, Vec<Worker<F>>), ServerFault>
+) -> Result<(Vec<PollerThread<F>>, Vec<Worker<F>>), AllocError>
     ensures { IfOk result (λ made. IsDivided (fresh_seat server.shared.claims) (map (λ ends. ends.items) server.free.items)
         server.pollers.items server.workers (map (λ p. poller_part p.number p.poller p.own) made.0.items)
         (map (λ w. worker_part w.number w.owned) made.1.items)) }
@@ -71,7 +71,7 @@ fn pollers_of<F: Front + Drop>(
     shared: &Arc<Shared<F>>,
     rest: &mut Rest,
     mut pollers: Vec<Poller<F>>,
-) -> Result<Vec<PollerThread<F>>, ServerFault>
+) -> Result<Vec<PollerThread<F>>, AllocError>
     requires { AreFresh (arc_value shared.now).claims rest.old.parts.seats.items }
     ensures fresh { OnOk result (AreFresh (arc_value shared.now).claims rest.new.parts.seats.items) }
     ensures pollers { IfOk result (λ threads. map (λ thread. (thread.number, thread.poller)) threads.items ≡ numbered pollers.items) }
@@ -94,7 +94,7 @@ fn thread_of<F: Front + Drop>(
     rest: &mut Rest,
     number: usize,
     poller: Poller<F>,
-) -> Result<PollerThread<F>, ServerFault>
+) -> Result<PollerThread<F>, AllocError>
     requires { AreFresh (arc_value shared.now).claims rest.old.parts.seats.items }
     ensures fresh { OnOk result (AreFresh (arc_value shared.now).claims rest.new.parts.seats.items) }
     ensures made { IfOk result (λ thread. (thread.number ≡ number) × (thread.poller ≡ poller)) }
@@ -106,7 +106,7 @@ fn thread_of<F: Front + Drop>(
 {
     let slots = shared.claims.slots();
     if poller.table().len() != slots {
-        return Err(ServerFault::NoMemory);
+        return Err(AllocError);
     }
     let (shared, own) = rest.next_own(alloc, shared, number, poller_hand(slots))?;
     Ok(PollerThread {
@@ -131,7 +131,7 @@ fn workers_of<F: Front + Drop>(
     rest: &mut Rest,
     first: usize,
     workers: usize,
-) -> Result<Vec<Worker<F>>, ServerFault>
+) -> Result<Vec<Worker<F>>, AllocError>
     requires { AreFresh (arc_value shared.now).claims rest.old.parts.seats.items }
     ensures numbers { IfOk result (λ made. map (λ worker. worker.number) made.items ≡ range_with_len first workers) }
     ensures own { IfOk result (λ made. All (λ worker. (worker.owned.own.seat ≡ fresh_seat (arc_value shared.now).claims)
@@ -139,7 +139,7 @@ fn workers_of<F: Front + Drop>(
 {
     // The parts run out long before the numbers do.
     if usize::MAX - first < workers {
-        return Err(ServerFault::NoMemory);
+        return Err(AllocError);
     }
     let mut made = Vec::with_capacity(alloc, workers)?;
     for index in 0..workers {
@@ -163,7 +163,7 @@ impl Rest {
         shared: &Arc<Shared<F>>,
         poller: usize,
         capacity: usize,
-    ) -> Result<(Arc<Shared<F>>, Own), ServerFault>
+    ) -> Result<(Arc<Shared<F>>, Own), AllocError>
         requires { AreFresh (arc_value shared.now).claims self.old.parts.seats.items }
         ensures fresh { OnOk result (AreFresh (arc_value shared.now).claims self.new.parts.seats.items) }
         ensures shared { IfOk result (λ made. arc_value made.0 ≡ arc_value shared.now) }
@@ -173,17 +173,17 @@ impl Rest {
         ensures left { OnOk result (AreLeft self.old.free self.new.free) }
     {
         let Some(free) = self.next_end(poller) else {
-            return Err(ServerFault::NoMemory);
+            return Err(AllocError);
         };
         let same = Arc::try_clone(shared)?;
         match self.parts.next_own(alloc, shared, capacity, free)? {
             Some(own) => Ok((same, own)),
-            None => Err(ServerFault::NoMemory),
+            None => Err(AllocError),
         }
     }
 
     /// An end of each queue but the first poller's, in order.
-    fn other_ends(&mut self, alloc: Global) -> Result<Vec<FreeQueue>, ServerFault>
+    fn other_ends(&mut self, alloc: Global) -> Result<Vec<FreeQueue>, AllocError>
         ensures parts { OnOk result (self.new.parts ≡ self.old.parts) }
         ensures ends { IfOk result (λ ends. OfFirst Contains (drop 1 self.old.free) ends.items []) }
         ensures left { OnOk result (AreLeft self.old.free self.new.free) }
@@ -193,7 +193,7 @@ impl Rest {
         for poller in 1..pollers {
             match self.next_end(poller) {
                 Some(free) => ends.push(free)?,
-                None => return Err(ServerFault::NoMemory),
+                None => return Err(AllocError),
             }
         }
         Ok(ends)

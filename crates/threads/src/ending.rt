@@ -4,6 +4,7 @@ ghost use Rattle.ready.specs.Steps.{look_of};
 ghost use Rattle.threads.specs.Loops.{EndsAll, Took, announced, fault_by};
 
 use crate::faults::{Found, Recorded};
+use crate::joining::Served;
 use common::{Front, Own};
 use ready::{Drained, Empty, Full, Ticket};
 use rounds::Poller;
@@ -34,8 +35,8 @@ pub struct Ended {
 
 /// Which fault is recorded, if a thread met one, and how many pollers have not ended.
 ///
-/// In a clause it is the mark at which threads look, which is set once a fault is recorded.
-#[derive(Drop)]
+/// In a clause it is the mark at which threads look, which is set once a fault is recorded. It cannot be dropped: no
+/// part runs without one, and only [`Ending::over`] takes it.
 pub struct Ending {
     recorded: OnceLock<()>,
     polling: AtomicUsize,
@@ -191,5 +192,13 @@ impl Ending {
     /// A poller has ended. Returns whether it was the last.
     pub(crate) fn leave(&self) -> bool {
         self.polling.fetch_sub(1, SeqCst) <= 1
+    }
+
+    /// All threads have ended, as `_served` shows: none looks for a fault any more.
+    pub(crate) fn over(self, _served: &Served) {
+        let Ending {
+            recorded: _,
+            polling: _,
+        } = self;
     }
 }

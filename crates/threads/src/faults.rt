@@ -1,8 +1,7 @@
-//! What becomes of a fault: a mark is set, and of all that threads met the lowest number's ends the server.
-ghost use Rattle.std.specs.{Prelude.{◌≡◌, ◌↔◌, IfErr, IsOk, None, Some}};
-ghost use Rattle.threads.specs.{Loops.announced, Served.fault_of};
+//! What becomes of a fault that a thread met: it is recorded, and a mark is set.
+ghost use Rattle.std.specs.Prelude.{◌≡◌};
+ghost use Rattle.threads.specs.Loops.{announced};
 
-use crate::running::Served;
 use sizes::ServerFault;
 use std::marker::Model;
 use std::snapshot::Snapshot;
@@ -66,15 +65,6 @@ impl Recorded<'_> {
     }
 }
 
-/// How a server ended: well; or for want of a thread; or by a fault that threads met, the lowest number's; or by what
-/// refused the server before it served. Once threads have run, [`Outcome::of`] makes this value. It cannot be
-/// dropped, so whoever serves returns it.
-pub struct Outcome {
-    fault: Option<ServerFault>,
-    /// How its threads ended. None if it was refused before it served.
-    served: Option<Served>,
-}
-
 impl<'a> Recorded<'a> {
     /// Sets the mark: each thread that looks at it from now on finds that there is a fault.
     pub(crate) fn at(
@@ -93,42 +83,6 @@ impl<'a> Recorded<'a> {
             number,
             fault,
             marked,
-        }
-    }
-}
-
-impl Outcome {
-    /// The outcome of a server whose threads ended so: the lack of a thread, or what the lowest number met.
-    pub(crate) fn of(served: Served) -> Outcome
-        ensures fault { result.fault ≡ fault_of served }
-        ensures served { result.served ≡ Some served }
-    {
-        Outcome {
-            fault: served.fault(),
-            served: Some(served),
-        }
-    }
-
-    /// The outcome of a server that was refused before it served.
-    pub fn refused(fault: ServerFault) -> Outcome
-        ensures fault { result.fault ≡ Some fault }
-        ensures none { result.served ≡ None }
-    {
-        Outcome {
-            fault: Some(fault),
-            served: None,
-        }
-    }
-
-    /// The fault by which the server ended, if one did.
-    pub fn into_result(self) -> Result<(), ServerFault>
-        ensures well { IsOk result ↔ self.fault ≡ None }
-        ensures fault { IfErr result (λ fault. self.fault ≡ Some fault) }
-    {
-        let Outcome { fault, served: _ } = self;
-        match fault {
-            Some(fault) => Err(fault),
-            None => Ok(()),
         }
     }
 }

@@ -1,10 +1,12 @@
-//! The threads of parts that have one each: how they are started, and joined.
-ghost use Rattle.std.specs.Prelude.{◌≡◌, ◌≤◌, [], IfOk, None, true, vec_capacity, vec_len};
-ghost use Rattle.threads.specs.{Divided.OfFirst, Served.{AreStarted, IsOf}};
+//! The threads of parts that have one each: how they are started and joined, and the outcome of their ends.
+ghost use Rattle.std.specs.Prelude.{◌≡◌, ◌↔◌, ◌≤◌, [], IfErr, IfOk, IsOk, None, Some, fold, true, vec_capacity, vec_len};
+ghost use Rattle.threads.specs.{Divided.OfFirst, Served.{AreStarted, IsOf, fault_of, met}};
 
 use crate::context::ThreadEnd;
+use crate::ending::Ending;
 use crate::faults::Few;
 use os::set_thread_name;
+use sizes::ServerFault;
 use std::alloc::{AllocError, Global};
 use std::snapshot::Snapshot;
 use std::thread::{Promise, PromisedHandle, Scope, Threads};
@@ -37,42 +39,37 @@ pub(crate) trait Handed {
 
 /// A thread's promise: it runs this part to its end.
 #[derive(Drop)]
-pub(crate) struct Runs<'s, P, X> {
+pub(crate) struct Runs<P, X> {
     part: Snapshot<P>,
-    context: &'s X,
+    context: Snapshot<X>,
 }
 
-impl<'s, X, P: Part<X>> Promise<ThreadEnd> for Runs<'s, P, X> {
-    ghost kept_by = { λ p end. P.runs p.context.now p.part.value end };
+impl<X, P: Part<X>> Promise<ThreadEnd> for Runs<P, X> {
+    ghost kept_by = { λ p end. P.runs p.context.value p.part.value end };
 }
 
 /// Threads that were started, and room for how they end.
 #[derive(Drop)]
-pub(crate) struct Joins<'s, P: Part<X>, X> {
-    handles: Vec<PromisedHandle<ThreadEnd, Runs<'s, P, X>>>,
+struct Joins<P: Part<X>, X> {
+    handles: Vec<PromisedHandle<ThreadEnd, Runs<P, X>>>,
     ends: Vec<ThreadEnd>,
     ghost none: { ends.items ≡ [] },
-    ghost room: { vec_len handles ≤ vec_capacity ends },
+    ghost room: { vec_capacity handles ≤ vec_capacity ends },
 }
 
-impl<'s, P: Part<X>, X> Joins<'s, P, X> {
+impl<P: Part<X>, X> Joins<P, X> {
     /// Room for the threads of `count` parts.
-    pub(crate) fn for_parts(alloc: Global, count: usize) -> Result<Joins<'s, P, X>, AllocError>
-        ensures none { IfOk result (λ joins. joins.handles.items ≡ []) }
-        ensures room { IfOk result (λ joins. (count ≤ vec_capacity joins.handles) × (count ≤ vec_capacity joins.ends)) }
+    fn for_parts(alloc: Global, count: usize) -> Result<Joins<P, X>, AllocError>
+        ensures { IfOk result (λ joins. (joins.handles.items ≡ []) × (count ≤ vec_capacity joins.handles)) }
     {
         let handles = Vec::with_capacity(alloc, count)?;
         let ends = Vec::with_capacity(alloc, count)?;
         Ok(Joins { handles, ends })
     }
 
-    pub(crate) fn len(&self) -> usize {
-        self.handles.len()
-    }
-
     /// Starts a thread of this name for each part, in order, and moves the part into it, if all others `so_far` were
     /// started. False: one could not be started, and no more were.
-    pub(crate) fn start<E>(
+    fn start<'s, E>(
         &mut self,
         scope: &'s Scope<'s, E>,
         context: &'s X,
@@ -83,10 +80,9 @@ impl<'s, P: Part<X>, X> Joins<'s, P, X> {
     where
         P: Drop + Send + 's,
         X: Sync,
-        requires none { self.old.handles.items ≡ [] }
-        requires room { (vec_len parts ≤ vec_capacity self.old.handles) × (vec_len parts ≤ vec_capacity self.old.ends) }
+        requires { (self.old.handles.items ≡ []) × (vec_len parts ≤ vec_capacity self.old.handles) }
         ensures started { AreStarted
-            (λ part handle. IsOf context.now part handle.promise.context.now handle.promise.part.value)
+            (λ part handle. IsOf context.now part handle.promise.context.value handle.promise.part.value)
             parts.items self.new.handles.items (result ≡ true) }
         ensures others { result ≡ true → so_far ≡ true }
     {
@@ -96,7 +92,7 @@ impl<'s, P: Part<X>, X> Joins<'s, P, X> {
         for part in parts {
             let promise = Runs {
                 part: Snapshot::of(&part),
-                context,
+                context: Snapshot::of(context),
             };
             match scope.spawn_with(promise, move || run_named(name, part, context)) {
                 Ok(handle) => self.handles.push_reserved(handle),
@@ -107,10 +103,10 @@ impl<'s, P: Part<X>, X> Joins<'s, P, X> {
     }
 
     /// Waits until each has ended.
-    pub(crate) fn join(self, rt: &impl Threads) -> Vec<ThreadEnd>
+    fn join(self, rt: &impl Threads) -> Vec<ThreadEnd>
     where
         P: Drop,
-        ensures { OfFirst (λ handle end. P.runs handle.promise.context.now handle.promise.part.value end)
+        ensures { OfFirst (λ handle end. P.runs handle.promise.context.value handle.promise.part.value end)
             self.entry.handles.items result.items [] }
     {
         let Joins { handles, mut ends } = self;
@@ -121,11 +117,30 @@ impl<'s, P: Part<X>, X> Joins<'s, P, X> {
     }
 }
 
-/// The threads beside the one that serves: of the pollers `P`, and of the workers `W`.
-#[derive(Drop)]
-pub(crate) struct Crew<'s, P: Part<X>, W: Part<X>, X> {
-    pollers: Joins<'s, P, X>,
-    workers: Joins<'s, W, X>,
+/// The threads beside the one that serves: of the pollers `P`, and of the workers `W`. A crew cannot be dropped.
+pub(crate) struct Crew<P: Part<X>, W: Part<X>, X> {
+    pollers: Joins<P, X>,
+    workers: Joins<W, X>,
+}
+
+/// All threads of a server have ended, and how. Only [`Crew::join`] makes this value, which cannot be dropped.
+pub(crate) struct Served {
+    /// If a thread could not be started, that is recorded.
+    few: Option<Few>,
+    pollers: Vec<ThreadEnd>,
+    workers: Vec<ThreadEnd>,
+    /// Of the first poller, which ran in the thread that serves.
+    first: Option<ThreadEnd>,
+}
+
+/// How a server ended: well; or for want of a thread; or by a fault that threads met, the lowest number's; or by what
+/// refused the server before it served. No thread of a refused server had begun: all threads need an [`Ending`], which
+/// only [`Outcome::of`] takes, and neither that nor an outcome can be dropped. Only the program can read an outcome, so
+/// whoever serves returns it.
+pub struct Outcome {
+    fault: Option<ServerFault>,
+    /// How its threads ended. None if it was refused before it served.
+    served: Option<Served>,
 }
 
 /// Fewer threads were started than are wanted.
@@ -134,18 +149,15 @@ pub(crate) struct Lack {
     pub(crate) wanted: usize,
 }
 
-impl<'s, P: Part<X>, W: Part<X>, X> Crew<'s, P, W, X> {
+impl<P: Part<X>, W: Part<X>, X> Crew<P, W, X> {
     /// Room for the threads of these numbers of parts.
     pub(crate) fn for_parts(
         alloc: Global,
         pollers: usize,
         workers: usize,
-    ) -> Result<Crew<'s, P, W, X>, AllocError>
-        ensures none { IfOk result (λ crew. (crew.pollers.handles.items ≡ []) × (crew.workers.handles.items ≡ [])) }
-        ensures pollers { IfOk result (λ crew. (pollers ≤ vec_capacity crew.pollers.handles)
-            × (pollers ≤ vec_capacity crew.pollers.ends)) }
-        ensures workers { IfOk result (λ crew. (workers ≤ vec_capacity crew.workers.handles)
-            × (workers ≤ vec_capacity crew.workers.ends)) }
+    ) -> Result<Crew<P, W, X>, AllocError>
+        ensures pollers { IfOk result (λ crew. (crew.pollers.handles.items ≡ []) × (pollers ≤ vec_capacity crew.pollers.handles)) }
+        ensures workers { IfOk result (λ crew. (crew.workers.handles.items ≡ []) × (workers ≤ vec_capacity crew.workers.handles)) }
     {
         let workers = Joins::for_parts(alloc, workers)?;
         let pollers = Joins::for_parts(alloc, pollers)?;
@@ -153,7 +165,7 @@ impl<'s, P: Part<X>, W: Part<X>, X> Crew<'s, P, W, X> {
     }
 
     /// Starts a thread for each part, the workers' first. Once one cannot be started, no more are.
-    pub(crate) fn start<E>(
+    pub(crate) fn start<'s, E>(
         &mut self,
         scope: &'s Scope<'s, E>,
         context: &'s X,
@@ -164,42 +176,117 @@ impl<'s, P: Part<X>, W: Part<X>, X> Crew<'s, P, W, X> {
         P: Drop + Send + 's,
         W: Drop + Send + 's,
         X: Sync,
-        requires none { (self.old.pollers.handles.items ≡ []) × (self.old.workers.handles.items ≡ []) }
-        requires room_for_pollers { (vec_len pollers ≤ vec_capacity self.old.pollers.handles)
-            × (vec_len pollers ≤ vec_capacity self.old.pollers.ends) }
-        requires room_for_workers { (vec_len workers ≤ vec_capacity self.old.workers.handles)
-            × (vec_len workers ≤ vec_capacity self.old.workers.ends) }
+        requires pollers { (self.old.pollers.handles.items ≡ []) × (vec_len pollers ≤ vec_capacity self.old.pollers.handles) }
+        requires workers { (self.old.workers.handles.items ≡ []) × (vec_len workers ≤ vec_capacity self.old.workers.handles) }
         ensures pollers { AreStarted
-            (λ part handle. IsOf context.now part handle.promise.context.now handle.promise.part.value)
+            (λ part handle. IsOf context.now part handle.promise.context.value handle.promise.part.value)
             pollers.items self.new.pollers.handles.items (result ≡ None) }
         ensures workers { AreStarted
-            (λ part handle. IsOf context.now part handle.promise.context.now handle.promise.part.value)
+            (λ part handle. IsOf context.now part handle.promise.context.value handle.promise.part.value)
             workers.items self.new.workers.handles.items (result ≡ None) }
     {
         let wanted = pollers.len().saturating_add(workers.len());
-        let so_far = self.workers.start(scope, context, b"worker", workers, true);
-        if self
-            .pollers
-            .start(scope, context, b"poller", pollers, so_far)
-        {
+        let all = self.workers.start(scope, context, b"worker", workers, true);
+        if self.pollers.start(scope, context, b"poller", pollers, all) {
             return None;
         }
-        let started = self.pollers.len().saturating_add(self.workers.len());
+        let pollers = self.pollers.handles.len();
+        let started = pollers.saturating_add(self.workers.handles.len());
         Some(Lack { started, wanted })
     }
 
-    /// Waits until each has ended.
-    pub(crate) fn join(self, rt: &impl Threads) -> (Vec<ThreadEnd>, Vec<ThreadEnd>)
+    /// Waits until each has ended, as the first poller has.
+    pub fn join(self, rt: &impl Threads, few: Option<Few>, first: Option<ThreadEnd>) -> Served
     where
         P: Drop,
         W: Drop,
-        ensures pollers { OfFirst (λ handle end. P.runs handle.promise.context.now handle.promise.part.value end)
-            self.entry.pollers.handles.items result.0.items [] }
-        ensures workers { OfFirst (λ handle end. W.runs handle.promise.context.now handle.promise.part.value end)
-            self.entry.workers.handles.items result.1.items [] }
+        ensures pollers { OfFirst (λ handle end. P.runs handle.promise.context.value handle.promise.part.value end)
+            self.entry.pollers.handles.items result.pollers.items [] }
+        ensures workers { OfFirst (λ handle end. W.runs handle.promise.context.value handle.promise.part.value end)
+            self.entry.workers.handles.items result.workers.items [] }
+        ensures others { (result.few ≡ few) × (result.first ≡ first) }
     {
         let Crew { pollers, workers } = self;
         let pollers = pollers.join(rt);
-        (pollers, workers.join(rt))
+        let workers = workers.join(rt);
+        Served {
+            few,
+            pollers,
+            workers,
+            first,
+        }
+    }
+}
+
+impl Served {
+    /// The lack of a thread, or the fault that the thread with the lowest number met.
+    fn fault(&self) -> Option<ServerFault>
+        ensures { result ≡ fault_of self.now }
+    {
+        if self.few.is_some() {
+            return Some(ServerFault::Threads);
+        }
+        let met = lowest_met(None, &self.pollers);
+        let met = self.first.as_ref().map_or(met, |first| first.lowest(met));
+        let (_, fault) = lowest_met(met, &self.workers)?;
+        Some(fault)
+    }
+}
+
+/// Of the fault that is kept, and of those that met one, the lowest number's.
+fn lowest_met(
+    mut kept: Option<(usize, ServerFault)>,
+    ends: &[ThreadEnd],
+) -> Option<(usize, ServerFault)>
+    ensures { result ≡ fold met kept ends.now }
+{
+    for end in ends {
+        kept = end.lowest(kept);
+    }
+    kept
+}
+
+impl Outcome {
+    /// The outcome of a server whose threads ended so: the lack of a thread, or what the lowest number met.
+    pub(crate) fn of(served: Served, ending: Ending) -> Outcome
+        ensures fault { result.fault ≡ fault_of served }
+        ensures served { result.served ≡ Some served }
+    {
+        ending.over(&served);
+        Outcome {
+            fault: served.fault(),
+            served: Some(served),
+        }
+    }
+
+    /// The outcome of a server that was refused before it served.
+    pub fn refused(fault: ServerFault) -> Outcome
+        ensures fault { result.fault ≡ Some fault }
+        ensures none { result.served ≡ None }
+    {
+        Outcome {
+            fault: Some(fault),
+            served: None,
+        }
+    }
+
+    /// The fault by which the server ended, if one did. Only the program has the process's own handle, and reads this.
+    pub fn into_result(self, _own: &HostRuntime) -> Result<(), ServerFault>
+        ensures well { IsOk result ↔ self.fault ≡ None }
+        ensures fault { IfErr result (λ fault. self.fault ≡ Some fault) }
+    {
+        let Outcome { fault, served } = self;
+        if let Some(served) = served {
+            let Served {
+                few: _,
+                pollers: _,
+                workers: _,
+                first: _,
+            } = served;
+        }
+        match fault {
+            Some(fault) => Err(fault),
+            None => Ok(()),
+        }
     }
 }

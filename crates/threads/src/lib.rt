@@ -27,5 +27,5 @@ mod running;
 mod working;
 
 pub use context::StopFlag;
-pub use faults::Outcome;
+pub use joining::Outcome;
 pub use running::{Server, run_threads};

@@ -1,14 +1,14 @@
 //! A server's threads, from the first to the last.
-ghost use Rattle.std.specs.Prelude.{◌≡◌, ℕ, List, [], IfOk, IfSome, None, fold, map, option_to_list};
+ghost use Rattle.std.specs.Prelude.{◌≡◌, ◌≤◌, ℕ, List, [], IfSome, None, Some, map, option_to_list, vec_capacity, vec_len};
 ghost use Rattle.claims.specs.Seats.{fresh_seat};
 ghost use Rattle.common.specs.Posts.{AreFresh};
-ghost use Rattle.threads.specs.{Divided.OfFirst, Loops.{announced}, Served.{AllRan, IsDivided, fault_of, met, PollerPart, PollerRuns, WorkerPart, WorkerRuns, poller_part, worker_part}};
+ghost use Rattle.threads.specs.{Divided.OfFirst, Loops.{announced}, Served.{AllRan, IsDivided, fault_of, PollerPart, PollerRuns, WorkerPart, WorkerRuns, poller_part, worker_part}};
 
 use crate::context::{Context, StopFlag, ThreadEnd};
 use crate::dividing::divide;
 use crate::ending::Ending;
-use crate::faults::{Few, Outcome, Recorded};
-use crate::joining::{Crew, Handed, Lack, Part};
+use crate::faults::{Few, Recorded};
+use crate::joining::{Crew, Handed, Lack, Outcome, Part, Served};
 use crate::polling::PollerThread;
 use crate::working::Worker;
 use common::{Clock, Front, Gate, Parts, Shared, Timing};
@@ -48,12 +48,12 @@ pub struct Server<F: Front> {
 /// server ends once all connections are closed. `gate` hears that all threads were started, unless a fault is recorded
 /// by then: other threads may have run turns before.
 ///
-/// Refuses with `NoMemory`, before any thread has started, if memory is short, if there are fewer seats or ends of
-/// queues than threads, or if a poller's table is not as long as there are slots. Once threads run, the first fault
-/// ends all of them, and cuts what is open: `Poll` or `Worn` of a round, `Worn` of a turn, or `Threads`, of which
-/// `Poll` and `Threads` are logged. The fault of the outcome is `Threads` if a thread could not be started, or else
-/// that of the lowest thread that met one: pollers come before workers. In `ran`, `mark` is which mark is set once a
-/// fault is recorded.
+/// Refuses with `NoMemory`, only before any thread has started ([`Outcome`]), if memory is short, if there are fewer
+/// seats or ends of queues than threads, or if a poller's table is not as long as there are slots. Once threads run,
+/// the first fault ends all of them, and cuts what is open: `Poll` or `Worn` of a round, `Worn` of a turn, or
+/// `Threads`, of which `Poll` and `Threads` are logged. The fault of the outcome is `Threads` if a thread could not be
+/// started, or else that of the lowest thread that met one: pollers come before workers. In `ran`, `mark` is which mark
+/// is set once a fault is recorded.
 pub fn run_threads<'a, F, G, C, R, S>(
     rt: &'a R,
     alloc: Global,
@@ -77,11 +77,14 @@ where
         (PollerRuns (S.said is_stopped.now) (C.tells timing.entry.clock.now) F.gave_none timing.entry.limit mark)
         (WorkerRuns mark) pollers workers served) }
     ensures fault { IfSome result.served (λ served. result.fault ≡ fault_of served) }
+    ensures refused { result.served ≡ None → result.fault ≡ Some ServerFault.NoMemory }
 {
     let (split, count) = (server.split, server.pollers.len());
-    let (pollers, workers) = match divide(alloc, server) {
-        Ok(threads) => threads,
-        Err(fault) => return Outcome::refused(fault),
+    let Ok((pollers, workers)) = divide(alloc, server) else {
+        return Outcome::refused(ServerFault::NoMemory);
+    };
+    let Ok(crew) = Crew::for_parts(alloc, pollers.len(), workers.len()) else {
+        return Outcome::refused(ServerFault::NoMemory);
     };
     let ending = Ending::new(count);
     let context = Context {
@@ -93,54 +96,9 @@ where
         is_stopped,
         split,
     };
-    let served = run_all(rt, alloc, &context, pollers, workers);
+    let served = run_all(rt, crew, &context, pollers, workers);
     drop(context);
-    match served {
-        Ok(served) => Outcome::of(served),
-        Err(fault) => Outcome::refused(fault),
-    }
-}
-
-/// All threads of a server have ended, and how. Only [`run_in`] makes this value.
-#[derive(Drop)]
-pub(crate) struct Served {
-    /// If a thread could not be started, that is recorded.
-    pub(crate) few: Option<Few>,
-    pollers: Vec<ThreadEnd>,
-    workers: Vec<ThreadEnd>,
-    /// Of the first poller, which ran in the thread that serves.
-    first: Option<ThreadEnd>,
-}
-
-impl Served {
-    /// The lack of a thread, or the fault that the thread with the lowest number met.
-    pub(crate) fn fault(&self) -> Option<ServerFault>
-        ensures { result ≡ fault_of self.now }
-    {
-        if self.few.is_some() {
-            return Some(ServerFault::Threads);
-        }
-        let met = lowest_met(None, &self.pollers);
-        let met = match &self.first {
-            Some(first) => first.lowest(met),
-            None => met,
-        };
-        let (_, fault) = lowest_met(met, &self.workers)?;
-        Some(fault)
-    }
-}
-
-/// Of the fault that is kept, and of those that met one, the lowest number's.
-fn lowest_met(
-    mut kept: Option<(usize, ServerFault)>,
-    ends: &[ThreadEnd],
-) -> Option<(usize, ServerFault)>
-    ensures { result ≡ fold met kept ends.now }
-{
-    for end in ends {
-        kept = end.lowest(kept);
-    }
-    kept
+    Outcome::of(served, ending)
 }
 
 impl<'a, F: Front, G: Gate, C: Clock, R: Wait + Log, S: StopFlag> Part<Context<'a, G, C, R, S>>
@@ -169,10 +127,7 @@ impl<'a, F: Front, G: Gate, C: Clock, R: Wait + Log, S: StopFlag> Part<Context<'
 impl<G: Gate, C, R: Wait + Log, S> Handed for Context<'_, G, C, R, S> {
     /// The gate hears that all were, unless a fault is recorded.
     fn few_started(&self, lack: Option<Lack>) -> Option<Few> {
-        let few = match lack {
-            Some(lack) => Some(not_started(self, lack).few()),
-            None => None,
-        };
+        let few = lack.map(|lack| not_started(self, lack).few());
         if !self.ending.is_recorded() {
             self.gate.all_started();
         }
@@ -183,20 +138,22 @@ impl<G: Gate, C, R: Wait + Log, S> Handed for Context<'_, G, C, R, S> {
 /// Runs all parts to their ends, as [`run_in`] does in a scope.
 fn run_all<P, W, X: Handed + Sync, R: Wait + Threads>(
     rt: &R,
-    alloc: Global,
+    crew: Crew<P, W, X>,
     context: &X,
     pollers: Vec<P>,
     workers: Vec<W>,
-) -> Result<Served, ServerFault>
+) -> Served
 where
     P: Part<X> + Drop + Send,
     W: Part<X> + Drop + Send,
-    ensures { IfOk result (λ served. AllRan (P.runs context.now) (W.runs context.now) pollers.items workers.items served) }
+    requires pollers { (crew.pollers.handles.items ≡ []) × (vec_len pollers ≤ vec_capacity crew.pollers.handles) }
+    requires workers { (crew.workers.handles.items ≡ []) × (vec_len workers ≤ vec_capacity crew.workers.handles) }
+    ensures { AllRan (P.runs context.now) (W.runs context.now) pollers.items workers.items result }
 {
     thread::scope(
         thread::scope_env(),
         rt,
-        move |scope| run_in(scope, rt, alloc, context, pollers, workers),
+        move |scope| run_in(scope, rt, crew, context, pollers, workers),
     )
 }
 
@@ -204,28 +161,23 @@ where
 fn run_in<'s, E, P, W, X: Handed + Sync>(
     scope: &'s Scope<'s, E>,
     rt: &impl Threads,
-    alloc: Global,
+    mut crew: Crew<P, W, X>,
     context: &'s X,
     mut pollers: Vec<P>,
     workers: Vec<W>,
-) -> Result<Served, ServerFault>
+) -> Served
 where
     P: Part<X> + Drop + Send + 's,
     W: Part<X> + Drop + Send + 's,
-    ensures { IfOk result (λ served. AllRan (P.runs context.now) (W.runs context.now) pollers.items workers.items served) }
+    requires pollers { (crew.pollers.handles.items ≡ []) × (vec_len pollers ≤ vec_capacity crew.pollers.handles) }
+    requires workers { (crew.workers.handles.items ≡ []) × (vec_len workers ≤ vec_capacity crew.workers.handles) }
+    ensures { AllRan (P.runs context.now) (W.runs context.now) pollers.items workers.items result }
 {
     let first = pollers.pop();
-    let mut crew = Crew::for_parts(alloc, pollers.len(), workers.len())?;
     let lack = crew.start(scope, context, pollers, workers);
     let few = context.few_started(lack);
     let first = run_first(context, first);
-    let (pollers, workers) = crew.join(rt);
-    Ok(Served {
-        few,
-        pollers,
-        workers,
-        first,
-    })
+    crew.join(rt, few, first)
 }
 
 /// Runs this part, if there is one, in the calling thread.
@@ -233,10 +185,8 @@ fn run_first<P: Part<X> + Drop, X>(context: &X, first: Option<P>) -> Option<Thre
     ensures ran { OfFirst (P.runs context.now) (option_to_list first) (option_to_list result) [] }
     ensures none { result ≡ None → first ≡ None }
 {
-    match first {
-        Some(mut part) => Some(part.run_to_end(context)),
-        None => None,
-    }
+    let mut part = first?;
+    Some(part.run_to_end(context))
 }
 
 /// Fewer threads were started beside the first than are wanted. The fault is logged, and recorded under number 0.

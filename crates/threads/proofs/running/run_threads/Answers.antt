@@ -2,13 +2,13 @@ use Rattle.std.proofs.Common.{map}
 use Rattle.threads.{specs.Served.{poller_part, worker_part}, proofs.Served.{all_of_map}}
 use Rattle.threads.proofs.running.run_threads.Goals as goal
 
-pub returns-in-Ok-served-clause-ran : goal.returns-in-Ok-served-clause-ran
-returns-in-Ok-served-clause-ran g c =
+pub returns-clause-ran : goal.returns-clause-ran
+returns-clause-ran g c =
     let made = c.in-Ok.threads in
     rw c.of.ensures.served (
       c.new-ending.result,
       map (λ p. poller_part p.number p.poller p.own) made.0.items,
       map (λ w. worker_part w.number w.owned) made.1.items,
       c.in-Ok.ensures,
-      all_of_map _ _ _ _ c.in-Ok-served.ensures,
+      all_of_map _ _ _ _ c.run_all-served.ensures,
     )

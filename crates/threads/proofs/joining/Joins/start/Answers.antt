@@ -5,7 +5,7 @@ use Rattle.threads.proofs.joining.Joins.start.Goals as goal
 pub loop-part-init : goal.loop-part-init
 loop-part-init g c =
     let all : into_iter_items c.into_iter-part-iterator.result ≡ c.args.parts.items = search rules in
-    record { room = search rules; room_for_ends = search rules; started = rw c.requires.none all }
+    record { room = search rules; started = rw c.requires.0 all }
 
 pub loop-part-preserved : goal.loop-part-preserved
 loop-part-preserved g c =
@@ -13,7 +13,6 @@ loop-part-preserved g c =
     let next : into_iter_items c.loop-part.part-iterator ≡ c.in-Some.part ∷ into_iter_items c.next.new.self = c.in-Some.ensures.steps.0 in
     record {
       room = search rules;
-      room_for_ends = search rules;
       started = rw c.push_reserved.ensures.items (next_of_first _ _ _ _ _ _ (rw next at was.started) (search rules));
     }
 

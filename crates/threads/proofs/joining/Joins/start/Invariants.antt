@@ -5,7 +5,6 @@ use Rattle.threads.proofs.joining.Joins.start.Given as goal
 abbrev pub invariant-loop-part : goal.invariant-loop-part
 invariant-loop-part g l = record {
   room : vec_len l.self.handles + into_iter_len l.part-iterator ≤ vec_capacity l.self.handles;
-  room_for_ends : vec_len l.self.handles + into_iter_len l.part-iterator ≤ vec_capacity l.self.ends;
-  started : OfFirst (λ part handle. IsOf l.context part handle.promise.context.now handle.promise.part.value) l.fn.parts.items
+  started : OfFirst (λ part handle. IsOf l.context part handle.promise.context.value handle.promise.part.value) l.fn.parts.items
       l.self.handles.items (into_iter_items l.part-iterator);
 }
