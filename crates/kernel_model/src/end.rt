@@ -114,20 +114,6 @@ impl End {
         self.shut
     }
 
-    /// Whether the next bytes, end of input or error must be reported, since a read answered blocked.
-    pub fn is_read_armed(&self) -> bool
-        ensures { result ≡ self.now.read_armed }
-    {
-        self.read_armed
-    }
-
-    /// Whether room or an error must be reported, since a write or a join answered blocked.
-    pub fn is_write_armed(&self) -> bool
-        ensures { result ≡ self.now.write_armed }
-    {
-        self.write_armed
-    }
-
     /// Whether a read would not block: unread bytes, the end of input, or an error.
     pub fn is_readable(&self) -> bool
         ensures { result ≡ is_readable self.now }

@@ -35,13 +35,15 @@ pub record IsDivided (fresh : SeatState) (free : List (List (EndState ℕ))) (po
   pub workers_are : map (λ (w : WorkerPart). w.number) of_workers ≡ range_with_len (length pollers) workers
   pub workers_own : All (λ (w : WorkerPart). (w.owned.own.seat ≡ fresh) × HasOneOfEach free (ends_of w.owned)) of_workers
 
--- a worker's thread ran to its end. A fault that it found is recorded, as this mark shows
+-- a worker's thread ran to its end: each ticket that it took was run, in order, but for one at most if a look found a fault. That
+-- is recorded, as this mark shows
 pub record WorkerRuns (mark : ℕ) (part : WorkerPart) (end : ThreadEnd) : Type 0 where
   pub number_is : end.number ≡ part.number
   pub owned : Owned
   pub ended : WorkerEnded mark end.why part.owned owned
 
--- a poller's thread ran to its end, likewise
+-- a poller's thread ran to its end: it made some steps (a look at the stop flag, a round, at most 32 own turns), and then the one
+-- that ended it. `said`, `tells`, `gave_none`: what is known of its looks at flag and clock, and of accept(2); `limit`: idle limit
 pub record PollerRuns (said : Bool → Type 0) (tells : ℕ → Type 0) (gave_none : Unaccepted → Type 0) (limit mark : ℕ)
     (part : PollerPart) (end : ThreadEnd) : Type 0 where
   pub number_is : end.number ≡ part.number
