@@ -58,15 +58,6 @@ pub(crate) struct Joins<P: Part<X>, X> {
 }
 
 impl<P: Part<X>, X> Joins<P, X> {
-    /// Room for the threads of `count` parts.
-    fn for_parts(alloc: Global, count: usize) -> Result<Joins<P, X>, AllocError>
-        ensures { IfOk result (λ joins. (joins.handles.items ≡ []) × (count ≤ vec_capacity joins.handles)) }
-    {
-        let handles = Vec::with_capacity(alloc, count)?;
-        let ends = Vec::with_capacity(alloc, count)?;
-        Ok(Joins { handles, ends })
-    }
-
     /// Starts a thread of this name for each part, in order, and moves the part into it, if all others `so_far` were
     /// started. False: one could not be started, and no more were.
     fn start<'s, E>(
@@ -117,8 +108,7 @@ impl<P: Part<X>, X> Joins<P, X> {
     }
 }
 
-/// The threads that began beside the one that serves: of the pollers `P`, and of the workers `W`. This value cannot be
-/// dropped, so they are joined.
+/// The threads that began beside the one that serves, of pollers and of workers. This value cannot be dropped.
 pub(crate) struct Crew<P: Part<X>, W: Part<X>, X> {
     pollers: Joins<P, X>,
     workers: Joins<W, X>,
@@ -160,8 +150,14 @@ impl<P: Part<X>, W: Part<X>, X> Crew<P, W, X> {
         ensures pollers { IfOk result (λ room. (room.0.handles.items ≡ []) × (pollers ≤ vec_capacity room.0.handles)) }
         ensures workers { IfOk result (λ room. (room.1.handles.items ≡ []) × (workers ≤ vec_capacity room.1.handles)) }
     {
-        let workers = Joins::for_parts(alloc, workers)?;
-        let pollers = Joins::for_parts(alloc, pollers)?;
+        let workers = Joins {
+            handles: Vec::with_capacity(alloc, workers)?,
+            ends: Vec::with_capacity(alloc, workers)?,
+        };
+        let pollers = Joins {
+            handles: Vec::with_capacity(alloc, pollers)?,
+            ends: Vec::with_capacity(alloc, pollers)?,
+        };
         Ok((pollers, workers))
     }
 
@@ -289,9 +285,6 @@ impl Outcome {
                 first: _,
             } = served;
         }
-        match fault {
-            Some(fault) => Err(fault),
-            None => Ok(()),
-        }
+        fault.map_or(Ok(()), Err)
     }
 }
