@@ -50,7 +50,7 @@ impl<X, P: Part<X>> Promise<ThreadEnd> for Runs<P, X> {
 
 /// Threads that were started, and room for how they end.
 #[derive(Drop)]
-struct Joins<P: Part<X>, X> {
+pub(crate) struct Joins<P: Part<X>, X> {
     handles: Vec<PromisedHandle<ThreadEnd, Runs<P, X>>>,
     ends: Vec<ThreadEnd>,
     ghost none: { ends.items ≡ [] },
@@ -58,15 +58,6 @@ struct Joins<P: Part<X>, X> {
 }
 
 impl<P: Part<X>, X> Joins<P, X> {
-    /// Room for the threads of `count` parts.
-    fn for_parts(alloc: Global, count: usize) -> Result<Joins<P, X>, AllocError>
-        ensures { IfOk result (λ joins. (joins.handles.items ≡ []) × (count ≤ vec_capacity joins.handles)) }
-    {
-        let handles = Vec::with_capacity(alloc, count)?;
-        let ends = Vec::with_capacity(alloc, count)?;
-        Ok(Joins { handles, ends })
-    }
-
     /// Starts a thread of this name for each part, in order, and moves the part into it, if all others `so_far` were
     /// started. False: one could not be started, and no more were.
     fn start<'s, E>(
@@ -107,7 +98,7 @@ impl<P: Part<X>, X> Joins<P, X> {
     where
         P: Drop,
         ensures { OfFirst (λ handle end. P.runs handle.promise.context.value handle.promise.part.value end)
-            self.entry.handles.items result.items [] }
+            self.handles.items result.items [] }
     {
         let Joins { handles, mut ends } = self;
         for handle in handles {
@@ -117,7 +108,7 @@ impl<P: Part<X>, X> Joins<P, X> {
     }
 }
 
-/// The threads beside the one that serves: of the pollers `P`, and of the workers `W`. A crew cannot be dropped.
+/// The threads that began beside the one that serves, of pollers and of workers. This value cannot be dropped.
 pub(crate) struct Crew<P: Part<X>, W: Part<X>, X> {
     pollers: Joins<P, X>,
     workers: Joins<W, X>,
@@ -155,44 +146,54 @@ impl<P: Part<X>, W: Part<X>, X> Crew<P, W, X> {
         alloc: Global,
         pollers: usize,
         workers: usize,
-    ) -> Result<Crew<P, W, X>, AllocError>
-        ensures pollers { IfOk result (λ crew. (crew.pollers.handles.items ≡ []) × (pollers ≤ vec_capacity crew.pollers.handles)) }
-        ensures workers { IfOk result (λ crew. (crew.workers.handles.items ≡ []) × (workers ≤ vec_capacity crew.workers.handles)) }
+    ) -> Result<(Joins<P, X>, Joins<W, X>), AllocError>
+        ensures pollers { IfOk result (λ room. (room.0.handles.items ≡ []) × (pollers ≤ vec_capacity room.0.handles)) }
+        ensures workers { IfOk result (λ room. (room.1.handles.items ≡ []) × (workers ≤ vec_capacity room.1.handles)) }
     {
-        let workers = Joins::for_parts(alloc, workers)?;
-        let pollers = Joins::for_parts(alloc, pollers)?;
-        Ok(Crew { pollers, workers })
+        let workers = Joins {
+            handles: Vec::with_capacity(alloc, workers)?,
+            ends: Vec::with_capacity(alloc, workers)?,
+        };
+        let pollers = Joins {
+            handles: Vec::with_capacity(alloc, pollers)?,
+            ends: Vec::with_capacity(alloc, pollers)?,
+        };
+        Ok((pollers, workers))
     }
 
     /// Starts a thread for each part, the workers' first. Once one cannot be started, no more are.
     pub(crate) fn start<'s, E>(
-        &mut self,
+        room: (Joins<P, X>, Joins<W, X>),
         scope: &'s Scope<'s, E>,
         context: &'s X,
         pollers: Vec<P>,
         workers: Vec<W>,
-    ) -> Option<Lack>
+    ) -> (Crew<P, W, X>, Option<Lack>)
     where
         P: Drop + Send + 's,
         W: Drop + Send + 's,
         X: Sync,
-        requires pollers { (self.old.pollers.handles.items ≡ []) × (vec_len pollers ≤ vec_capacity self.old.pollers.handles) }
-        requires workers { (self.old.workers.handles.items ≡ []) × (vec_len workers ≤ vec_capacity self.old.workers.handles) }
+        requires pollers { (room.0.handles.items ≡ []) × (vec_len pollers ≤ vec_capacity room.0.handles) }
+        requires workers { (room.1.handles.items ≡ []) × (vec_len workers ≤ vec_capacity room.1.handles) }
         ensures pollers { AreStarted
             (λ part handle. IsOf context.now part handle.promise.context.value handle.promise.part.value)
-            pollers.items self.new.pollers.handles.items (result ≡ None) }
+            pollers.items result.0.pollers.handles.items (result.1 ≡ None) }
         ensures workers { AreStarted
             (λ part handle. IsOf context.now part handle.promise.context.value handle.promise.part.value)
-            workers.items self.new.workers.handles.items (result ≡ None) }
+            workers.items result.0.workers.handles.items (result.1 ≡ None) }
     {
+        let mut crew = Crew {
+            pollers: room.0,
+            workers: room.1,
+        };
         let wanted = pollers.len().saturating_add(workers.len());
-        let all = self.workers.start(scope, context, b"worker", workers, true);
-        if self.pollers.start(scope, context, b"poller", pollers, all) {
-            return None;
+        let all = crew.workers.start(scope, context, b"worker", workers, true);
+        if crew.pollers.start(scope, context, b"poller", pollers, all) {
+            return (crew, None);
         }
-        let pollers = self.pollers.handles.len();
-        let started = pollers.saturating_add(self.workers.handles.len());
-        Some(Lack { started, wanted })
+        let pollers = crew.pollers.handles.len();
+        let started = pollers.saturating_add(crew.workers.handles.len());
+        (crew, Some(Lack { started, wanted }))
     }
 
     /// Waits until each has ended, as the first poller has.
@@ -201,9 +202,9 @@ impl<P: Part<X>, W: Part<X>, X> Crew<P, W, X> {
         P: Drop,
         W: Drop,
         ensures pollers { OfFirst (λ handle end. P.runs handle.promise.context.value handle.promise.part.value end)
-            self.entry.pollers.handles.items result.pollers.items [] }
+            self.pollers.handles.items result.pollers.items [] }
         ensures workers { OfFirst (λ handle end. W.runs handle.promise.context.value handle.promise.part.value end)
-            self.entry.workers.handles.items result.workers.items [] }
+            self.workers.handles.items result.workers.items [] }
         ensures others { (result.few ≡ few) × (result.first ≡ first) }
     {
         let Crew { pollers, workers } = self;
@@ -284,9 +285,6 @@ impl Outcome {
                 first: _,
             } = served;
         }
-        match fault {
-            Some(fault) => Err(fault),
-            None => Ok(()),
-        }
+        fault.map_or(Ok(()), Err)
     }
 }

@@ -8,7 +8,7 @@ use crate::context::{Context, StopFlag, ThreadEnd};
 use crate::dividing::divide;
 use crate::ending::Ending;
 use crate::faults::{Few, Recorded};
-use crate::joining::{Crew, Handed, Lack, Outcome, Part, Served};
+use crate::joining::{Crew, Handed, Joins, Lack, Outcome, Part, Served};
 use crate::polling::PollerThread;
 use crate::working::Worker;
 use common::{Clock, Front, Gate, Parts, Shared, Timing};
@@ -84,7 +84,7 @@ where
     let Ok((pollers, workers)) = divide(alloc, server) else {
         return Outcome::refused(ServerFault::NoMemory);
     };
-    let Ok(crew) = Crew::for_parts(alloc, pollers.len(), workers.len()) else {
+    let Ok(room) = Crew::for_parts(alloc, pollers.len(), workers.len()) else {
         return Outcome::refused(ServerFault::NoMemory);
     };
     let ending = Ending::new(count);
@@ -97,7 +97,7 @@ where
         is_stopped,
         split,
     };
-    let served = run_all(rt, crew, &context, pollers, workers);
+    let served = run_all(rt, room, &context, pollers, workers);
     drop(context);
     Outcome::of(served, ending)
 }
@@ -139,7 +139,7 @@ impl<G: Gate, C, R: Wait + Log, S> Handed for Context<'_, G, C, R, S> {
 /// Runs all parts to their ends, as [`run_in`] does in a scope.
 fn run_all<P, W, X: Handed + Sync, R: Wait + Threads>(
     rt: &R,
-    crew: Crew<P, W, X>,
+    room: (Joins<P, X>, Joins<W, X>),
     context: &X,
     pollers: Vec<P>,
     workers: Vec<W>,
@@ -147,14 +147,17 @@ fn run_all<P, W, X: Handed + Sync, R: Wait + Threads>(
 where
     P: Part<X> + Drop + Send,
     W: Part<X> + Drop + Send,
-    requires pollers { (crew.pollers.handles.items ≡ []) × (vec_len pollers ≤ vec_capacity crew.pollers.handles) }
-    requires workers { (crew.workers.handles.items ≡ []) × (vec_len workers ≤ vec_capacity crew.workers.handles) }
+    requires pollers { (room.0.handles.items ≡ []) × (vec_len pollers ≤ vec_capacity room.0.handles) }
+    requires workers { (room.1.handles.items ≡ []) × (vec_len workers ≤ vec_capacity room.1.handles) }
     ensures { AllRan (P.runs context.now) (W.runs context.now) pollers.items workers.items result }
 {
     thread::scope(
         thread::scope_env(),
         rt,
-        move |scope| run_in(scope, rt, crew, context, pollers, workers),
+        move |scope|
+            requires pollers { (room.0.handles.items ≡ []) × (vec_len pollers ≤ vec_capacity room.0.handles) }
+            requires workers { (room.1.handles.items ≡ []) × (vec_len workers ≤ vec_capacity room.1.handles) }
+        { run_in(scope, rt, room, context, pollers, workers) },
     )
 }
 
@@ -162,7 +165,7 @@ where
 fn run_in<'s, E, P, W, X: Handed + Sync>(
     scope: &'s Scope<'s, E>,
     rt: &impl Threads,
-    mut crew: Crew<P, W, X>,
+    room: (Joins<P, X>, Joins<W, X>),
     context: &'s X,
     mut pollers: Vec<P>,
     workers: Vec<W>,
@@ -170,12 +173,12 @@ fn run_in<'s, E, P, W, X: Handed + Sync>(
 where
     P: Part<X> + Drop + Send + 's,
     W: Part<X> + Drop + Send + 's,
-    requires pollers { (crew.pollers.handles.items ≡ []) × (vec_len pollers ≤ vec_capacity crew.pollers.handles) }
-    requires workers { (crew.workers.handles.items ≡ []) × (vec_len workers ≤ vec_capacity crew.workers.handles) }
+    requires pollers { (room.0.handles.items ≡ []) × (vec_len pollers ≤ vec_capacity room.0.handles) }
+    requires workers { (room.1.handles.items ≡ []) × (vec_len workers ≤ vec_capacity room.1.handles) }
     ensures { AllRan (P.runs context.now) (W.runs context.now) pollers.items workers.items result }
 {
     let first = pollers.pop();
-    let lack = crew.start(scope, context, pollers, workers);
+    let (crew, lack) = Crew::start(room, scope, context, pollers, workers);
     let few = context.few_started(lack);
     let first = run_first(context, first);
     crew.join(rt, few, first)

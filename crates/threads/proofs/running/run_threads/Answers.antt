@@ -4,11 +4,10 @@ use Rattle.threads.proofs.running.run_threads.Goals as goal
 
 pub returns-clause-ran : goal.returns-clause-ran
 returns-clause-ran g c =
-    let made = c.in-Ok.threads in
     rw c.of.ensures.served (
       c.new-ending.result,
-      map (λ p. poller_part p.number p.poller p.own) made.0.items,
-      map (λ w. worker_part w.number w.owned) made.1.items,
+      map (λ p. poller_part p.number p.poller p.own) c.in-Ok.pollers.items,
+      map (λ w. worker_part w.number w.owned) c.in-Ok.workers.items,
       c.in-Ok.ensures,
       all_of_map _ _ _ _ c.run_all-served.ensures,
     )
