@@ -93,10 +93,7 @@ fn first_unheard(
 impl Reader {
     /// Whether a report can have been passed on since the last look, and before this count.
     fn may_hear(&self, waits: &[(u64, u64)], count: u64) -> bool {
-        match waits.get(count_below(waits, self.looked)) {
-            Some(wait) => wait.1 < count,
-            None => false,
-        }
+        matches!(waits.get(count_below(waits, self.looked)), Some(wait) if wait.1 < count)
     }
 
     /// A read had this answer. After one that would block it began with a look.

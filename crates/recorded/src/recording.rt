@@ -146,10 +146,7 @@ impl Recording {
 
     /// Whether the relay had failed before this count.
     pub fn has_failed(&self, count: u64) -> bool {
-        match self.failed {
-            Some(failed) => failed < count,
-            None => false,
-        }
+        matches!(self.failed, Some(failed) if failed < count)
     }
 
     /// What happened at a slot.

@@ -122,10 +122,7 @@ fn add(changes: &mut Vec<Change>, acts: &[Numbered], span: &Span) -> Result<(), 
 
 /// Whether a poller, which did these acts one after the other, did one between these two counts.
 pub fn is_busy(acts: &[Numbered], from: u64, to: u64) -> bool {
-    match acts.get(count_before(acts, from, true)) {
-        Some(act) => act.record.before < to,
-        None => false,
-    }
+    matches!(acts.get(count_before(acts, from, true)), Some(act) if act.record.before < to)
 }
 
 /// Adds what was done at a slot. Two spans are the poller's for certain: a turn that spent the own budget, but not the

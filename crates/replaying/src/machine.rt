@@ -121,26 +121,17 @@ impl Machine {
     }
 
     pub(crate) fn has_notes(&self) -> bool {
-        match self.world().slots().first() {
-            Some(slot) => slot.has_notes(),
-            None => false,
-        }
+        matches!(self.world().slots().first(), Some(slot) if slot.has_notes())
     }
 
     /// The connection in the slot.
     pub(crate) fn pair(&self) -> Option<&Pair> {
-        match self.world().connection(0) {
-            Some(connection) => Some(&connection.pair),
-            None => None,
-        }
+        Some(&self.world().connection(0)?.pair)
     }
 
     /// Whether the connection has ended, or there is none.
     pub(crate) fn is_over(&self) -> bool {
-        match self.pair() {
-            Some(pair) => pair.verdict() != Verdict::Live,
-            None => true,
-        }
+        !matches!(self.pair(), Some(pair) if pair.verdict() == Verdict::Live)
     }
 
     /// One end of the connection.

@@ -19,10 +19,7 @@ pub(crate) struct Posts<'a> {
 }
 
 fn is_after(post: &Post, state: &State) -> bool {
-    match post.since {
-        Some(since) => since >= state.taken_by && is_of(post, state),
-        None => false,
-    }
+    matches!(post.since, Some(since) if since >= state.taken_by && is_of(post, state))
 }
 
 /// Whether a report is of this connection, or a sweep can have come after the last turn took its notes.

@@ -182,10 +182,7 @@ fn key_cause(alloc: Global, place: Place, name: &str) -> Option<String> {
 
 /// Whether the line with this number begins a table.
 fn is_heading(text: &str, line: Option<usize>) -> bool {
-    match line {
-        Some(number) => line_of(text, number).trim_start().starts_with('['),
-        None => false,
-    }
+    matches!(line, Some(number) if line_of(text, number).trim_start().starts_with('['))
 }
 
 /// Prints the key that may be meant, if there is one.
