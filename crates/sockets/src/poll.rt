@@ -324,7 +324,7 @@ impl<R: Dial, P: Reporter> Sockets<'_, R, P> {
     /// A wait gave this many reports.
     fn count(&mut self, wait: Waiting, reports: usize)
         ensures quiet { wait ≡ Waiting.Brief → reports ≡ 0 → self.new.left ≡ most_left }
-        ensures kept { wait ≢ Waiting.Brief → self.new.left ≡ self.old.left }
+        ensures kept { (self.new.left ≡ self.old.left) ⊎ ((wait ≡ Waiting.Brief) × (reports ≡ 0)) }
         ensures eased { wait ≡ Waiting.Long → reports ≡ 0 → self.new.lacking ≡ 0 }
         ensures lacks { (self.new.lacking ≡ self.old.lacking) ⊎ ((wait ≡ Waiting.Long) × (reports ≡ 0)) }
         ensures same { self.new ≡ record self.old { left = self.new.left; lacking = self.new.lacking } }
