@@ -171,7 +171,8 @@ impl<R: System, G: Gate + Sync, C: Clock + Sync> Lent<'_, R, G, C> {
     }
 
     fn record_queue(self, split: Split, in_parts: bool) -> Result<RecordQueue, AllocError> {
-        RecordQueue::new(self.rt, self.alloc, split, in_parts, another(self.statistics)?)
+        let statistics = another(self.statistics)?;
+        RecordQueue::new(self.rt, self.alloc, split, in_parts, statistics)
     }
 }
 
@@ -267,9 +268,8 @@ impl<R: Wait, G, C> Lent<'_, R, G, C> {
 
 /// The header of a recording: the server's sizes.
 fn header_of(settings: &Settings, split: Split) -> Header
-    ensures { result ≡ record { slots = settings.now.slots; pollers = parts_of split.slots split.size;
-        workers = settings.now.workers; ring = settings.now.ring; budget = calls_for settings.now.budget;
-        idle = settings.now.idle; proxy = settings.now.proxy; from = None } }
+    ensures { let s = settings.now in let h = result in (h.pollers ≡ parts_of split.slots split.size) × (h.idle ≡ s.idle) × (h.from ≡ None)
+        × (h.slots ≡ s.slots) × (h.workers ≡ s.workers) × (h.ring ≡ s.ring) × (h.budget ≡ calls_for s.budget) × (h.proxy ≡ s.proxy) }
 {
     Header {
         slots: settings.slots,
