@@ -53,6 +53,7 @@ def makes_no_call_while_all_connections_wait():
             assert len(having(lines, "] fail ", " idle")) == (many if idle else 0)
 
 
+# refuses reads_into_half: a read is made into half of the buffer that it gets
 @needs("recording")
 def makes_as_many_calls_a_turn_as_are_set():
     for budget in 1, 3, 4, 5, 9, 1024:
@@ -61,11 +62,11 @@ def makes_as_many_calls_a_turn_as_are_set():
         with relay.stopped():
             client.sendall(bytes(20_000))
         relay.end()
-        with open(relay.record) as file:
-            used, calls, most = max(budget, 4), 0, 0
-            assert f" budget={used} " in file.readline()
-            for line in file:
-                is_call = re.search(r" 0\.1\.\w+ (read|write|join|shut) ", line)
-                calls = calls + 1 if is_call else 0 if " 0 begin" in line else calls
-                most = max(most, calls)
+        header, *lines = open(relay.record).read().splitlines()
+        used, calls, most = max(budget, 4), 0, 0
+        for line in lines:
+            is_call = re.search(r" 0\.1\.\w+ (read|write|join|shut) ", line)
+            calls = calls + 1 if is_call else 0 if " 0 begin" in line else calls
+            most = max(most, calls)
+        assert f" budget={used} " in header and having(lines, "client read 16 16") and having(lines, "target write 16 16")
         assert most == used and having(relay.told, "budget") == warned(budget)

@@ -79,8 +79,9 @@ def unstarted(started):
 # refuses found_fault_leaves_the_queue_open: a thread that finds a fault does not close the queue of tickets, so workers sleep on
 # refuses serves_without_its_recorder: a relay whose recording cannot be written for want of a thread serves on without it
 # refuses fault_leaves_the_recording_open: after a fault the relay waits without end for the thread that records
+# refuses serves_without_memory_to_record: a relay that has no memory for its recording serves without one
 @needs("cc")
-def no_thread_for_some():
+def no_thread_or_memory_for_some():
     # One thread writes the log, without which no other is started, two are workers, and one more polls.
     for most, level in itertools.product(range(4), ["info", "off"]):
         relay = Relay(preload={"MOST_THREADS": str(most)}, slots=128, workers=2, recorded=False, log=level)
@@ -89,6 +90,8 @@ def no_thread_for_some():
     for most, started in ("4", "3 of 4 started: "), ("1", ""):
         relay = Relay(preload={"MOST_THREADS": most}, slots=128, workers=2)
         assert not relay.record or relay.ended(1, within=10) == unstarted(started)
+    relay = Relay(under=["sh", "-c", 'ulimit -v 50000; exec "$@"', "sh"])
+    assert not relay.record or relay.ended(1)[-1] == "relayd: out of memory"
 
 
 # refuses failed_poll_is_swallowed: a relay whose poller cannot poll goes on, or ends well
@@ -129,6 +132,7 @@ def out_of_descriptors():
 
 
 # refuses accepts_only_to_close: without a descriptor for a target, one client after the other is accepted, and closed
+# refuses looks_for_three: after a lack of descriptors a relay looks for three before it accepts a client
 @by_time
 def one_descriptor_left():
     # With four pollers, which tell each other that descriptors are short.
@@ -138,11 +142,13 @@ def one_descriptor_left():
     time.sleep(1)
     closed = [client for client in waiting if not is_silent(client, 0)]
     assert len(closed) == 1 and is_closed_soon(closed[0])
-    # The others are served as soon as there are descriptors, within a wait of the pollers.
+    # Where two are left another is served, and the others as soon as there are more, within a wait of the pollers.
+    relay.limit(resource.RLIMIT_NOFILE, 14 + bool(relay.record))
+    assert until(lambda: sum(is_silent(client, 0) for client in waiting) == 28)
     relay.limit(resource.RLIMIT_NOFILE, None)
     assert all([answers_soon(client) for client in waiting if client not in closed])
     lines = relay.end()
-    assert drops_in(lines) == 1 and len(having(lines, "] open s=")) == 29 and 1 <= len(having(lines, "] accept: ")) <= 4
+    assert drops_in(lines) == 1 and len(having(lines, "] open s=")) == 29 and 1 <= len(having(lines, "] accept: ")) <= 8
 
 
 # refuses target_is_never_closed: the socket to the target is forgotten, and not closed
@@ -199,20 +205,22 @@ def out_of_memory():
 
 # refuses register_told_as_memory: a client whose socket cannot be registered is logged as one that found no memory
 # refuses target_stays_open: a target whose socket cannot be registered is not closed
+# refuses targets_cause_is_not_kept: the log does not say why a target's socket cannot be registered
 @needs("cc")
 def an_opening_that_fails_keeps_its_slot():
     # The first client's target finds no memory. The second client is the first socket after the waker and the listener, and
     # its target the next one.
     for socket_number in "34":
-        relay = Relay(target(echo), preload={"CONNECTS_LACK": "1", "REGISTER_FAILS": socket_number}, slots=1)
+        relay = Relay(target(echo), preload={"CONNECTS_LACK": "1", "REGISTER_FAILS": socket_number}, slots=1, log="debug")
         before = relay.descriptors()
         assert [relay.connect().recv(1), relay.connect().recv(1)] == [b"", b""]
         assert until(lambda: relay.descriptors() == before)
         client = relay.connect()
         assert asked(client)
-        lines = [line for line in relay.end() if "] drop" in line or "] open" in line]
-        assert lines[:2] == ["[WARN  relayd] drop kind=connect", "[WARN  relayd] drop kind=register"]
-        assert lines[2:] == ["[INFO  relayd] open s=0 g=1"]
+        lines = relay.end()
+        assert having(lines, "] gone ")[1].endswith(" cause=Operation not permitted (os error 1)")
+        drops = ["[WARN  relayd] drop kind=connect", "[WARN  relayd] drop kind=register"]
+        assert [line for line in lines if "] drop" in line or "] open" in line] == [*drops, "[INFO  relayd] open s=0 g=1"]
 
 
 # refuses system_memory_makes_none_wait: without the system's memory for a target, one client after the other is closed

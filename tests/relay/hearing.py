@@ -49,18 +49,22 @@ def of_a_thread_that_does_not_start():
     assert time.monotonic() - begun < 0.1 + 3 * SOON
 
 
+# refuses stop_wakes_the_first: a stop wakes the first poller alone, which may have opened all that it may
 # refuses end_of_input_wakes_nobody: pollers find that standard input has ended when their waits do
 @by_time
 def of_the_end_of_standard_input():
     times = []
-    for _ in range(5):
-        relay = Relay(target(echo), options=["--until-eof"], stdin=subprocess.PIPE, recorded=False, **MANY)
+    for most in 5 * [0, 16]:  # each poller may open any number; or one, and the first has
+        relay = Relay(target(echo), options=["--until-eof"], stdin=subprocess.PIPE, recorded=False, stop_after=most, **MANY)
+        clients = served(relay, most - 1)
         time.sleep(0.2)
         relay.process.stdin.close()
         relay.process.stdin = None
+        for client in clients:
+            client.close()
         times.append(seconds_to_end(relay.process))
         relay.ended()
-    assert median(times) < SOON, times
+    assert max(median(times[::2]), median(times[1::2])) < SOON, times
 
 
 # refuses unopened_share_stops_nobody: a poller that may open none passes on to nobody that no more may be opened

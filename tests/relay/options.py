@@ -13,7 +13,7 @@ from shared import at_once, by_time, having, is_closed_soon, is_open, line_of, n
 
 
 def has_all_options(is_typed):
-    """A relay with all options, on the command line or from a file, does what each says."""
+    """A relay with all options, on the command line and recorded or from a file and not, does what each says."""
     most, seconds = (4, 1) if is_typed else (0, 2)
     options = ["--log-clients", "--stats", str(seconds), "--until-eof", "--connect-timeout", "1", "--keepalive", "7"]
     file = tempfile.NamedTemporaryFile(suffix=".prom")
@@ -21,7 +21,7 @@ def has_all_options(is_typed):
     settings = {"ring": 100, "budget": 5, "workers": 2, "slots": 128, "idle": 4, "proxy": True, "stop_after": most}
     listener, pairs, started = unheard(), [], time.monotonic()
     listener.listen(0)
-    relay = Relay(port_of(listener), options=options, typed=is_typed, stdin=subprocess.PIPE, **settings)
+    relay = Relay(port_of(listener), options=options, typed=is_typed, recorded=is_typed, stdin=subprocess.PIPE, **settings)
     begun = time.monotonic()
     # Beside two pollers and two workers there are those of the log, the counts, standard input and the recording.
     names = ["log", "poller", "stats", "stdin", "worker", "worker"] + ["record"] * bool(relay.record)

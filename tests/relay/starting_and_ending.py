@@ -267,9 +267,8 @@ def listens_on_its_address_alone():
         relay.connect(to="127.0.0.2").close()
         raise AssertionError("it listens at 127.0.0.2")
     taken = f"127.0.0.1:{relay.port}"
-    begins = f"[ERROR relayd] listen: {taken}: Address already in use (os error 98): "
-    cause, fault = Relay(1, listen=taken).ended(1)
-    assert cause.startswith(begins) and fault == "relayd: listen: failed"
+    cause = "Address already in use (os error 98): ss -tan shows by what, also as the source of a connection"
+    assert Relay(1, listen=taken).ended(1) == [f"[ERROR relayd] listen: {taken}: {cause}", "relayd: listen: failed"]
     ask_once(relay)
 
 

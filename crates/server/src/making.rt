@@ -51,6 +51,8 @@ pub fn build<F: Front + Drop, R: Wait>(
         (map (λ ends. ends.items) made.free.items)) }
     ensures pollers { IfOk result (λ made. made.pollers.items ≡ all_begun settings.now split 0 (map F.seen fronts.items)) }
     ensures workers { IfOk result (λ made. made.workers ≡ settings.now.workers) }
+    ensures light { IfOk result (λ made. IsTrue made.shared.shares_light
+        ↔ SharesLight (parts_of split.slots split.size) settings.now.workers) }
     ensures split { IfOk result (λ made. made.split ≡ split) }
     ensures refused { IfErr result (λ fault. fault ≡ ServerFault.NoMemory) }
 {

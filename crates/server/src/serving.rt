@@ -1,7 +1,8 @@
 //! A server over the system's sockets, from its settings to its end, which may record what its threads do.
-ghost use Rattle.std.specs.Prelude.{◌≡◌, IfNone, IfOk, IfSome, length, map};
+ghost use Rattle.std.specs.Prelude.{◌≡◌, IfNone, IfOk, IfSome, None, length, map};
 ghost use Rattle.server.specs.{Begins.{all_begun, free_ends}, Serves.{Deals, RanAs, Serves}};
-ghost use Rattle.sizes.specs.Pollers.{pollers_for};
+ghost use Rattle.settings.specs.Calls.{calls_for};
+ghost use Rattle.sizes.specs.{Pollers.{pollers_for}, Splits.{parts_of}};
 
 use crate::making::{build, split_of};
 use common::{Clock, Front, Gate, Timing};
@@ -95,7 +96,7 @@ pub fn serve_recorded<R: System, G: Gate + Sync, C: Clock + Sync, P: Parts + Sen
     };
     let split = split_of(settings);
     let in_parts = most < u64::MAX;
-    let Ok(queue) = record_queue(lent.rt, lent.alloc, split, in_parts, lent.statistics) else {
+    let Ok(queue) = lent.record_queue(split, in_parts) else {
         return Outcome::refused(ServerFault::NoMemory);
     };
     let recording = Recording {
@@ -107,16 +108,6 @@ pub fn serve_recorded<R: System, G: Gate + Sync, C: Clock + Sync, P: Parts + Sen
     };
     let queue = &recording.queue;
     serve_beside(&recording, move || lent.serve(settings, bound, Some(queue)))
-}
-
-fn record_queue(
-    rt: &impl time::Clock,
-    alloc: Global,
-    split: Split,
-    in_parts: bool,
-    statistics: Option<&Arc<Statistics>>,
-) -> Result<RecordQueue, AllocError> {
-    RecordQueue::new(rt, alloc, split, in_parts, another(statistics)?)
 }
 
 #[derive(Drop)]
@@ -177,6 +168,11 @@ impl<R: System, G: Gate + Sync, C: Clock + Sync> Lent<'_, R, G, C> {
             },
             Err(fault) => Outcome::refused(fault),
         }
+    }
+
+    fn record_queue(self, split: Split, in_parts: bool) -> Result<RecordQueue, AllocError> {
+        let statistics = another(self.statistics)?;
+        RecordQueue::new(self.rt, self.alloc, split, in_parts, statistics)
     }
 }
 
@@ -271,7 +267,10 @@ impl<R: Wait, G, C> Lent<'_, R, G, C> {
 }
 
 /// The header of a recording: the server's sizes.
-fn header_of(settings: &Settings, split: Split) -> Header {
+fn header_of(settings: &Settings, split: Split) -> Header
+    ensures { let s = settings.now in let h = result in (h.pollers ≡ parts_of split.slots split.size) × (h.idle ≡ s.idle) × (h.from ≡ None)
+        × (h.slots ≡ s.slots) × (h.workers ≡ s.workers) × (h.ring ≡ s.ring) × (h.budget ≡ calls_for s.budget) × (h.proxy ≡ s.proxy) }
+{
     Header {
         slots: settings.slots,
         pollers: split.pollers(),
@@ -285,8 +284,5 @@ fn header_of(settings: &Settings, split: Split) -> Header {
 }
 
 fn another(statistics: Option<&Arc<Statistics>>) -> Result<Option<Arc<Statistics>>, AllocError> {
-    match statistics {
-        Some(statistics) => Ok(Some(statistics.clone()?)),
-        None => Ok(None),
-    }
+    statistics.map(|statistics| statistics.clone()).transpose()
 }

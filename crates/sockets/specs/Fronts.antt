@@ -108,7 +108,7 @@ OnlyLacked old new =
 pub record WaitEnded {P : Type 0} (wait : Waiting) (answer : Result (Unit {0}) Error) (old new : Watched P) : Type 0 where
   pub fails : IsTrue new.seen.failed ↔ WaitFails answer
   pub quiet : OnOk answer (wait ≡ waiting.Brief → new.seen.reported ≡ [] → new.left ≡ most_left)
-  pub kept : wait ≢ waiting.Brief → new.left ≡ old.left
+  pub kept : (new.left ≡ old.left) ⊎ ((wait ≡ waiting.Brief) × (new.seen.reported ≡ []))
   pub eased : OnOk answer (wait ≡ waiting.Long → new.seen.reported ≡ [] → new.lacking ≡ 0)
   pub lacks : (new.lacking ≡ old.lacking) ⊎ ((wait ≡ waiting.Long) × (new.seen.reported ≡ []))
   pub same : new ≡ record old { poll = new.poll; seen = new.seen; left = new.left; lacking = new.lacking }

@@ -36,7 +36,11 @@ fn set(socket: RawFd, level: i32, option: i32, value: u32) -> io::Result<()>
 {
     let mut bytes = [0; 16];
     bytes[..4].copy_from_slice(&value.to_ne_bytes());
-    let status = unsafe { system::setsockopt(socket, level, option, &bytes, 4) };
+    done(unsafe { system::setsockopt(socket, level, option, &bytes, 4) })
+}
+
+/// What the status of a system call says: below 0 it failed, and errno(3) has the error.
+pub(crate) fn done(status: i32) -> io::Result<()> {
     if status < 0 {
         return Err(io::Error::from_raw_os_error(os::errno()));
     }
@@ -55,8 +59,5 @@ pub(crate) fn look_for_tcp(socket: &TcpListener) -> io::Result<()> {
             &mut length,
         )
     };
-    if status < 0 {
-        return Err(io::Error::from_raw_os_error(os::errno()));
-    }
-    Ok(())
+    done(status)
 }

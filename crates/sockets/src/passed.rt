@@ -2,7 +2,7 @@
 ghost use Rattle.std.specs.Prelude.{◌≡◌, IfOk, IfErr, OnOk, true};
 ghost use Rattle.sockets.specs.Fronts.{At, AreAllFound, Listened, OfTcp, Prompt};
 
-use crate::options;
+use crate::options::{self, done};
 use libc::net as system;
 use libc::types::pollfd;
 use log::{Log, error};
@@ -65,7 +65,7 @@ pub fn take_passed<R: Log>(rt: &R) -> Result<Passed, ServerFault>
 fn take(number: i32) -> io::Result<OwnedFd> {
     let copy = os::duplicate(number);
     if copy < 0 {
-        return Err(last_error());
+        return Err(io::Error::from_raw_os_error(os::errno()));
     }
     libc::close(number);
     // The system has just given the copy's number, so it is open, and nobody else's.
@@ -110,10 +110,6 @@ impl fmt::Display for Unfit {
             Self::Silent => f.write_str("is a socket that does not listen"),
         }
     }
-}
-
-fn last_error() -> io::Error {
-    io::Error::from_raw_os_error(os::errno())
 }
 
 /// What may be a listening socket. Only the system knows what it is, so the trait leaves that open.
@@ -163,9 +159,6 @@ impl Passable for TcpListener {
     }
 
     fn wait_never(&self) -> io::Result<()> {
-        if os::set_nonblocking(self.as_raw_fd(), true) < 0 {
-            return Err(last_error());
-        }
-        Ok(())
+        done(os::set_nonblocking(self.as_raw_fd(), true))
     }
 }

@@ -232,8 +232,7 @@ fn let_others_run(busy: u8) -> u8 {
     0
 }
 
-/// Counts a poll that gave this many reports. Few mean little load, or connections with much to move, whose threads
-/// would keep the processor for a whole slice.
+/// Counts a poll that gave this many reports. Few mean little load, or threads that would keep the processor anyway.
 fn busy_after(busy: u8, reports: usize) -> u8 {
     if reports < SEVERAL {
         return busy.saturating_sub(1);
@@ -324,7 +323,7 @@ impl<R: Dial, P: Reporter> Sockets<'_, R, P> {
     /// A wait gave this many reports.
     fn count(&mut self, wait: Waiting, reports: usize)
         ensures quiet { wait ≡ Waiting.Brief → reports ≡ 0 → self.new.left ≡ most_left }
-        ensures kept { wait ≢ Waiting.Brief → self.new.left ≡ self.old.left }
+        ensures kept { (self.new.left ≡ self.old.left) ⊎ ((wait ≡ Waiting.Brief) × (reports ≡ 0)) }
         ensures eased { wait ≡ Waiting.Long → reports ≡ 0 → self.new.lacking ≡ 0 }
         ensures lacks { (self.new.lacking ≡ self.old.lacking) ⊎ ((wait ≡ Waiting.Long) × (reports ≡ 0)) }
         ensures same { self.new ≡ record self.old { left = self.new.left; lacking = self.new.lacking } }
@@ -385,12 +384,9 @@ fn v4(address: Option<SocketAddr>) -> Option<SocketAddrV4>
 fn reports_on<R: Net>(rt: &R, listener: &TcpListener) -> io::Result<(Poll, Waker)> {
     let socket = listener.as_raw_fd();
     let poll = Poll::new(rt)?;
-    poll.registry().register(
-        &mut SourceFd(&socket),
-        mio::Token(LISTENER as usize),
-        Interest::READABLE,
-    )?;
-    let waker = Waker::new(poll.registry(), mio::Token(WAKER as usize))?;
+    let (registry, token) = (poll.registry(), mio::Token(LISTENER as usize));
+    registry.register(&mut SourceFd(&socket), token, Interest::READABLE)?;
+    let waker = Waker::new(registry, mio::Token(WAKER as usize))?;
     Ok((poll, waker))
 }
 
@@ -490,11 +486,8 @@ impl<R: Dial, P: Reporter> Front for Sockets<'_, R, P> {
         if let Some(listener) = self.listener.take() {
             // The socket stays open if other fronts listen.
             let socket = listener.as_raw_fd();
-            let _ = self
-                .waiter
-                .poll
-                .registry()
-                .deregister(&mut SourceFd(&socket));
+            let registry = self.waiter.poll.registry();
+            let _ = registry.deregister(&mut SourceFd(&socket));
             self.loads.close(self.poller);
         }
     }

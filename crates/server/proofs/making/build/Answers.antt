@@ -11,3 +11,6 @@ shared_of-requires g c = record {
 
 pub invariant_of-result : goal.invariant_of-result
 invariant_of-result g c = record { seats = record { each = rw (c.in_ok-shared.ensures.seats, length-replicate) } }
+
+pub returns-clause-light : goal.returns-clause-light
+returns-clause-light g c = rw c.pollers-2.ensures.parts at c.in_ok-shared.ensures.light
