@@ -24,7 +24,7 @@
 //!   gave, or nothing (`LeadGiven`). `DropsFor` says which cause is logged if there is none (`cause`).
 //! - An accepted connection counts once (`Uncounted`): as opened, as dropped, or its slot as lost (`open`: `counted`,
 //!   by `Fate`). An opening passes its line to the log. Openings and drops are counted at their slots (`OpeningLogged`,
-//!   `DropCounted`, by which the front hears of a lack of memory). A drop counts only if the log gets a line or a
+//!   `FateTold`, by which the front hears of a lack of memory). A drop counts only if the log gets a line or a
 //!   count of it (`Dropped`). A slot is lost only if one exchange found it not free (`NotFree`), or no connection can
 //!   be opened there (`Spent`). After a failed opening the slot is in hand, and nowhere else (`prepare`: `failed`;
 //!   `round`: `slots`). Slots start at generation 0 (`Poller::new`); in a poller's table the slots of others stay at 0
