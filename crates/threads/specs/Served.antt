@@ -27,12 +27,13 @@ worker_part number owned = record { number = number; owned = owned }
 
 -- A server with these pollers, this many workers, and these ends of free queues is divided so: each part has a number and a
 -- fresh seat, each poller an end of its own free queue, and each worker an end of every one. The last poller's part is first
-pub record IsDivided (fresh : SeatState) (free : List (List (EndState ℕ))) (pollers : List PollerState) (workers : ℕ)
-    (of_pollers : List PollerPart) (of_workers : List WorkerPart) : Type 0 where
-  pub pollers_are : map (λ (p : PollerPart). (p.number, p.poller)) of_pollers ≡ numbered pollers
-  pub pollers_own : All (λ (p : PollerPart). (p.own.seat ≡ fresh) × IsEndOf free p.number p.own.free) of_pollers
-  pub workers_are : map (λ (w : WorkerPart). w.number) of_workers ≡ range_with_len (length pollers) workers
-  pub workers_own : All (λ (w : WorkerPart). (w.owned.own.seat ≡ fresh) × HasOneOfEach free (ends_of w.owned)) of_workers
+module _ (fresh : SeatState) (free : List (List (EndState ℕ))) where
+  pub record IsDivided (pollers : List PollerState) (workers : ℕ) (of_pollers : List PollerPart) (of_workers : List WorkerPart)
+      : Type 0 where
+    pub pollers_are : map (λ (p : PollerPart). (p.number, p.poller)) of_pollers ≡ numbered pollers
+    pub pollers_own : All (λ (p : PollerPart). (p.own.seat ≡ fresh) × IsEndOf free p.number p.own.free) of_pollers
+    pub workers_are : map (λ (w : WorkerPart). w.number) of_workers ≡ range_with_len (length pollers) workers
+    pub workers_own : All (λ (w : WorkerPart). (w.owned.own.seat ≡ fresh) × HasOneOfEach free (ends_of w.owned)) of_workers
 
 -- a worker's thread ran to its end. A fault that it found is recorded, as this mark shows
 pub record WorkerRuns (mark : ℕ) (part : WorkerPart) (end : ThreadEnd) : Type 0 where
@@ -40,12 +41,12 @@ pub record WorkerRuns (mark : ℕ) (part : WorkerPart) (end : ThreadEnd) : Type 
   pub owned : Owned
   pub ended : WorkerEnded mark end.why part.owned owned
 
--- a poller's thread ran to its end, likewise
-pub record PollerRuns (said : Bool → Type 0) (tells : ℕ → Type 0) (gave_none : Unaccepted → Type 0) (limit mark : ℕ)
-    (part : PollerPart) (end : ThreadEnd) : Type 0 where
-  pub number_is : end.number ≡ part.number
-  pub own : Own
-  pub made : RunMade said tells gave_none limit mark end.why part.poller part.own own
+-- a poller's thread ran to its end, likewise. What is known of its looks is as in `Loops.antt`
+module _ (said : Bool → Type 0) (tells : ℕ → Type 0) (gave_none : Unaccepted → Type 0) (limit : ℕ) where
+  pub record PollerRuns (mark : ℕ) (part : PollerPart) (end : ThreadEnd) : Type 0 where
+    pub number_is : end.number ≡ part.number
+    pub own : Own
+    pub made : RunMade said tells gave_none limit mark end.why part.poller part.own own
 
 -- The parts that have threads of their own ran to their ends, in order: all, or if a thread could not be started, the first
 abbrev pub RanToEnds : {P : Type 0} → (P → ThreadEnd → Type 0) → Option Few → List P → List ThreadEnd → Type 0
