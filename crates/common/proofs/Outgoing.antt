@@ -1,7 +1,7 @@
 -- What an end of a queue has put, and after it what is in hand.
-use Rattle.std.{proofs.{Common.{◌≡◌, ℕ, List, [], ◌∷◌, ◌++◌, sym, refl, ◌∙◌, append_assoc}, lemmas.List.{map-append, append-nil}}, specs.Prelude.map}
+use Rattle.std.{proofs.{Common.{◌≡◌, ℕ, List, [], ◌∷◌, ◌++◌, sym, refl, append_assoc}, lemmas.List.{map-append, append-nil}}, specs.Prelude.map}
 use Rattle.ready.specs.{declared.{history.History.History, ticket.Ticket.Ticket}, Steps.{EndState, PutOne, QueueEnd}}
-use Rattle.common.specs.{declared.shared.Own.Own, Hands.HandState, Outgoing.{outgoing, Inserted, TookNothing, tickets_out, slots_out}}
+use Rattle.common.specs.{declared.shared.Own.Own, Hands.HandState, Outgoing.{outgoing, Inserted, tickets_out, slots_out}}
 
 module _ {T : Type 0} where
   -- an item that was not in hand is put
@@ -37,6 +37,3 @@ pub refused_slot : (own : Own) (free : EndState ℕ) (hand : HandState) (item sl
     Inserted slot (slots_out own) (outgoing free.history hand.slots)
 refused_slot own free hand item slot same is kept =
     rw (same, kept, is) (kept_inserts own.free.history slot own.hand.slots)
-
-pub took_both : {a b c : Own} → TookNothing a b → TookNothing b c → TookNothing a c
-took_both one two = record { tickets = two.tickets ∙ one.tickets; slots = two.slots ∙ one.slots }

@@ -79,7 +79,7 @@ IsFailure (Took n) kind = (n ≡ 0) × (kind ≡ Zero)
 IsFailure (Refused error) kind = kind ≡ kind_of_error error
 IsFailure given kind = ⊥
 
--- the pair's answer says what the call gave; an error is one of three answers, by which count of its wire rose (IsMade)
+-- the pair's answer says what the call gave; which of three answers an error becomes shows in the count that rose (`IsMade`)
 abbrev pub IsToldBy : Given → AnswerValue → Type 0
 IsToldBy given (Bytes bytes) = given ≡ Brought bytes
 IsToldBy given End = given ≡ Brought []

@@ -89,74 +89,76 @@ pub data Step : Type 0 where
   Put : Record → Step
   Another : Step
 
--- these acts and nothing else were put, in order, with these counts
-abbrev pub PutsActs : {S : Type 0} → (Step → S → S → Type 0) → ℕ → ℕ → List Act → S → S → Type 0
-PutsActs did before after [] old new = new ≡ old
-PutsActs did before after (act ∷ acts) old new =
-    (put : _) × did (Put (record { before = before; after = after; act = act })) old put × PutsActs did before after acts put new
+module _ {S : Type 0} (did : Step → S → S → Type 0) where
+  -- these acts and nothing else were put, in order, with these counts
+  abbrev pub PutsActs : ℕ → ℕ → List Act → S → S → Type 0
+  PutsActs before after [] old new = new ≡ old
+  PutsActs before after (act ∷ acts) old new =
+      (put : S) × did (Put (record { before = before; after = after; act = act })) old put × PutsActs before after acts put new
 
--- these acts were put with this count and one that was taken after them; without this count nothing was done
-abbrev pub EndsActs : {S : Type 0} → (Step → S → S → Type 0) → Option ℕ → List Act → S → S → Type 0
-EndsActs did None acts old new = new ≡ old
-EndsActs did (Some before) acts old new = (after : ℕ) × (ended : _) × did (Ended after) old ended × PutsActs did before after acts ended new
+  -- these acts were put with this count and one that was taken after them; without this count nothing was done
+  abbrev pub EndsActs : Option ℕ → List Act → S → S → Type 0
+  EndsActs None acts old new = new ≡ old
+  EndsActs (Some before) acts old new = (after : ℕ) × (ended : S) × did (Ended after) old ended × PutsActs before after acts ended new
 
--- a count was taken, and then these acts were put, if anything is recorded now
-abbrev pub Records : {S : Type 0} → (Step → S → S → Type 0) → List Act → S → S → Type 0
-Records did acts old new = (before : Option ℕ) × (begun : _) × did (Began before) old begun × EndsActs did before acts begun new
+  -- a count was taken, and then these acts were put, if anything is recorded now
+  abbrev pub Records : List Act → S → S → Type 0
+  Records acts old new = (before : Option ℕ) × (begun : S) × did (Began before) old begun × EndsActs before acts begun new
 
--- the time was read if a wait gave anything
-abbrev pub ReadsTime : {S : Type 0} → (Step → S → S → Type 0) → List ℕ → Option ℕ → S → S → Type 0
-ReadsTime did [] time old new = (time ≡ None) × (new ≡ old)
-ReadsTime did (number ∷ numbers) time old new = (micros : ℕ) × (time ≡ Some micros) × did (Timed micros) old new
+  -- the time was read if a wait gave anything
+  abbrev pub ReadsTime : List ℕ → Option ℕ → S → S → Type 0
+  ReadsTime [] time old new = (time ≡ None) × (new ≡ old)
+  ReadsTime (number ∷ numbers) time old new = (micros : ℕ) × (time ≡ Some micros) × did (Timed micros) old new
 
--- a wait gave these numbers: its time was read, if it gave any, before the count after it, and then it was put, with its
--- time and its reports; without the count before it nothing was done
-abbrev pub EndsWait : {S : Type 0} → (Step → S → S → Type 0) → Option ℕ → ℕ → List ℕ → S → S → Type 0
-EndsWait did None poller numbers old new = new ≡ old
-EndsWait did (Some before) poller numbers old new =
-    (time : Option ℕ) × (read : _) × ReadsTime did numbers time old read × EndsActs did (Some before) (reports poller time numbers) read new
+  module _ (poller : ℕ) where
+    -- a wait gave these numbers: its time was read, if it gave any, before the count after it, and then it was put, with its
+    -- time and its reports; without the count before it nothing was done
+    abbrev pub EndsWait : Option ℕ → List ℕ → S → S → Type 0
+    EndsWait None numbers old new = new ≡ old
+    EndsWait (Some before) numbers old new =
+        (time : Option ℕ) × (read : S) × ReadsTime numbers time old read × EndsActs (Some before) (reports poller time numbers) read new
 
--- a wait for reports had this result, and left these numbers in the batch
-abbrev pub EndsPoll : {S T : Type 0} → (Step → S → S → Type 0) → Option ℕ → ℕ → Result T Error → List ℕ → S → S → Type 0
-EndsPoll did before poller (Ok done) numbers old new = EndsWait did before poller numbers old new
-EndsPoll did before poller (Err error) numbers old new = EndsActs did before (Poller poller (not_waited (error_kind error)) ∷ []) old new
+    -- a wait for reports had this result, and left these numbers in the batch
+    abbrev pub EndsPoll : {T : Type 0} → Option ℕ → Result T Error → List ℕ → S → S → Type 0
+    EndsPoll before (Ok done) numbers old new = EndsWait before numbers old new
+    EndsPoll before (Err error) numbers old new = EndsActs before (Poller poller (not_waited (error_kind error)) ∷ []) old new
 
-abbrev pub RecordsPoll : {S T : Type 0} → (Step → S → S → Type 0) → ℕ → Result T Error → List ℕ → S → S → Type 0
-RecordsPoll did poller result numbers old new =
-    (before : Option ℕ) × (begun : _) × did (Began before) old begun × EndsPoll did before poller result numbers begun new
+    abbrev pub RecordsPoll : {T : Type 0} → Result T Error → List ℕ → S → S → Type 0
+    RecordsPoll result numbers old new =
+        (before : Option ℕ) × (begun : S) × did (Began before) old begun × EndsPoll before result numbers begun new
 
--- an act was put with two counts that were taken in one step
-abbrev pub PutsAtOnce : {S : Type 0} → (Step → S → S → Type 0) → Option (ℕ × ℕ) → Act → S → S → Type 0
-PutsAtOnce did None act old new = new ≡ old
-PutsAtOnce did (Some counts) act old new = did (Put (record { before = counts.0; after = counts.1; act = act })) old new
+  -- an act was put with two counts that were taken in one step
+  abbrev pub PutsAtOnce : Option (ℕ × ℕ) → Act → S → S → Type 0
+  PutsAtOnce None act old new = new ≡ old
+  PutsAtOnce (Some counts) act old new = did (Put (record { before = counts.0; after = counts.1; act = act })) old new
 
-abbrev pub RecordsAtOnce : {S : Type 0} → (Step → S → S → Type 0) → Act → S → S → Type 0
-RecordsAtOnce did act old new = (counts : Option (ℕ × ℕ)) × (at : _) × did (AtOnce counts) old at × PutsAtOnce did counts act at new
+  abbrev pub RecordsAtOnce : Act → S → S → Type 0
+  RecordsAtOnce act old new = (counts : Option (ℕ × ℕ)) × (at : S) × did (AtOnce counts) old at × PutsAtOnce counts act at new
 
--- this was done by another handle
-abbrev pub Beside : {S : Type 0} → (Step → S → S → Type 0) → (S → S → Type 0) → S → Type 0
-Beside did done sink = (other : _) × (new : _) × did Another sink other × done other new
+  -- this was done by another handle
+  abbrev pub Beside : (S → S → Type 0) → S → Type 0
+  Beside done sink = (other : S) × (new : S) × did Another sink other × done other new
 
--- an act at an end begins; a count is taken only if the end has a name
-abbrev pub BegunBy : {S : Type 0} → (Step → S → S → Type 0) → Option EndName → Option ℕ → S → S → Type 0
-BegunBy did None before old new = (before ≡ None) × (new ≡ old)
-BegunBy did (Some name) before old new = did (Began before) old new
+  -- an act at an end begins; a count is taken only if the end has a name
+  abbrev pub BegunBy : Option EndName → Option ℕ → S → S → Type 0
+  BegunBy None before old new = (before ≡ None) × (new ≡ old)
+  BegunBy (Some name) before old new = did (Began before) old new
 
--- the act at an end has ended
-abbrev pub EndedBy : {S : Type 0} → (Step → S → S → Type 0) → Option EndName → Option ℕ → Made → S → S → Type 0
-EndedBy did None before made old new = new ≡ old
-EndedBy did (Some name) before made old new = EndsActs did before (Wire name made ∷ []) old new
+  -- the act at an end has ended
+  abbrev pub EndedBy : Option EndName → Option ℕ → Made → S → S → Type 0
+  EndedBy None before made old new = new ≡ old
+  EndedBy (Some name) before made old new = EndsActs before (Wire name made ∷ []) old new
 
--- this was recorded of a wire; nothing, if its end has no name yet
-abbrev pub WireRecords : {S : Type 0} → (Step → S → S → Type 0) → Option EndName → Made → S → S → Type 0
-WireRecords did None made old new = new ≡ old
-WireRecords did (Some name) made old new = Records did (Wire name made ∷ []) old new
+  -- this was recorded of a wire; nothing, if its end has no name yet
+  abbrev pub WireRecords : Option EndName → Made → S → S → Type 0
+  WireRecords None made old new = new ≡ old
+  WireRecords (Some name) made old new = Records (Wire name made ∷ []) old new
 
--- that a wire settled is recorded of the target's alone
-abbrev pub SettledAt : {S : Type 0} → (Step → S → S → Type 0) → EndName → Side → S → S → Type 0
-SettledAt did name Client old new = new ≡ old
-SettledAt did name Target old new = RecordsAtOnce did (Wire name made.Settle) old new
+  -- that a wire settled is recorded of the target's alone
+  abbrev pub SettledAt : EndName → Side → S → S → Type 0
+  SettledAt name Client old new = new ≡ old
+  SettledAt name Target old new = RecordsAtOnce (Wire name made.Settle) old new
 
-abbrev pub SettledOf : {S : Type 0} → (Step → S → S → Type 0) → Option EndName → S → S → Type 0
-SettledOf did None old new = new ≡ old
-SettledOf did (Some name) old new = SettledAt did name name.side old new
+  abbrev pub SettledOf : Option EndName → S → S → Type 0
+  SettledOf None old new = new ≡ old
+  SettledOf (Some name) old new = SettledAt name name.side old new

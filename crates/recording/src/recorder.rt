@@ -138,7 +138,7 @@ impl<S: Sink> Recorder<S> {
 
     /// Records that a wait gave these numbers, when, and each report among them, with the counts of the wait.
     pub(crate) fn record_reports(&mut self, begun: Begun, poller: usize, numbers: &[u64])
-        ensures { EndsWait S.did begun.0 poller numbers.now self.old.sink self.new.sink }
+        ensures { EndsWait S.did poller begun.0 numbers.now self.old.sink self.new.sink }
     {
         let Begun(before) = begun;
         let Some(before) = before else {

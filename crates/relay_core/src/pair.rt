@@ -144,6 +144,7 @@ impl Pair {
     pub fn answer(&mut self, call: Call, answer: Answer<'_>, now: u64)
         requires next { next_call self.old ≡ Some call }
         requires fits { fits self.old call (reply_of answer) ≡ true }
+        // `answer.entry` is the answer: so an `ensures` has to name a parameter that holds a reference.
         ensures value { self.new ≡ after now self.old call (reply_of answer.entry) }
 
         // What follows from `value`:

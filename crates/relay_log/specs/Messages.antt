@@ -73,7 +73,6 @@ gone_counts connected up down seconds =
 abbrev pub gone_between : Option Bool → ℕ → ℕ → ℕ → List ℕ
 gone_between connected up down seconds = gone_counts (yes_or_no connected) up down seconds
 
--- the whole of `gone`, with the address and the cause as they print
-abbrev pub gone_text : Option (List ℕ) → Option (List ℕ) → Option (ℕ × ℕ) → Option Bool → ℕ → ℕ → ℕ → Option (List ℕ)
-gone_text from cause opened connected up down seconds =
-    Some (gone_begins opened) ++? from ++? Some (gone_between connected up down seconds) ++? cause
+-- the whole of `gone`, with the address and the cause as they print, and with what stands between them
+abbrev pub gone_text : Option (ℕ × ℕ) → Option (List ℕ) → List ℕ → Option (List ℕ) → Option (List ℕ)
+gone_text opened from between cause = Some (gone_begins opened) ++? from ++? Some between ++? cause

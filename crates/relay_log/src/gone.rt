@@ -1,6 +1,6 @@
 //! The message about a connection that has ended, with its client and the system's cause.
 ghost use Rattle.std.specs.Prelude.{◌≡◌, ◌-◌, Some};
-ghost use Rattle.relay_log.specs.Messages.{gone_counts, gone_text, yes_or_no};
+ghost use Rattle.relay_log.specs.Messages.{gone_between, gone_counts, gone_text, yes_or_no};
 
 use relay_core::Pair;
 use std::fmt::{self, Display};
@@ -58,8 +58,8 @@ impl<'a, D, E> Gone<'a, D, E> {
 }
 
 impl<'a, D: Display, E: Display> Display for Gone<'a, D, E> {
-    ghost output = { λ gone. gone_text (D.output gone.from.now) (E.output gone.cause.now) gone.opened gone.connected gone.up gone.down
-        gone.seconds };
+    ghost output = { λ gone. gone_text gone.opened (D.output gone.from.now)
+        (gone_between gone.connected gone.up gone.down gone.seconds) (E.output gone.cause.now) };
 
     fn fmt<W: fmt::Write>(&self, f: &mut fmt::Formatter<W>) -> fmt::Result {
         let (from, cause) = (self.from, self.cause);

@@ -2,7 +2,7 @@
 ghost use Rattle.std.specs.Prelude.{Some, option_map, ◌≡◌};
 ghost use Rattle.relay_core.specs.Pairs.{verdict};
 ghost use Rattle.sizes.specs.Causes.{client_level};
-ghost use Rattle.relay_log.specs.Messages.{done_message, drop_message, drops_message, fail_message, full_message, gone_text, open_message, peer_text, EndLogged};
+ghost use Rattle.relay_log.specs.Messages.{done_message, drop_message, drops_message, fail_message, full_message, gone_between, gone_text, open_message, peer_text, EndLogged};
 ghost use Rattle.log.specs.declared.level.Level.TheVariants as level;
 
 use crate::Gone;
@@ -166,7 +166,7 @@ pub fn log_all_taken<L: Logs>(rt: &L, slots: usize)
 /// Logs [`Gone`] at the level that `clients` gives.
 pub fn log_gone<L: Logs, D: Display, E: Display>(rt: &L, clients: ClientsAt, gone: Gone<'_, D, E>)
     ensures { let g = gone.entry in L.logged rt.now (client_level clients)
-        (gone_text (D.output g.from.now) (E.output g.cause.now) g.opened g.connected g.up g.down g.seconds) }
+        (gone_text g.opened (D.output g.from.now) (gone_between g.connected g.up g.down g.seconds) (E.output g.cause.now)) }
 {
     rt.message(clients.level(), &gone);
 }

@@ -1,12 +1,12 @@
 -- Connections that are opened one after the other, why one is closed unopened, and a round of its parts.
-use Rattle.std.proofs.{Common.{◌≡◌, ◌≢◌, ◌⊎◌, ℕ, ◌+◌, ◌<◌, ◌≤◌, List, [], ◌∷◌, ◌++◌, length, drop, slice_get, slice_set, min, cond, Bool, true, refl, sym, ◌∙◌, arith, inl, inr, append_assoc, length-append, Option, Some, None, ◌==◌, Result, Ok, Err, IfErr, IfOk, IfSome, IsErrAnd, MatchResult, slice_index, ap, ◌↔◌, IsTrue, false, Contains, if◌then◌else◌}, lemmas.{Bool.false≢true, List.{append-nil, length-set, get_or-set_other, get_or_past, Sums.sum_by-append}, Grind.get_or-set_at, Option.{none-some, same_Some}}}
+use Rattle.std.proofs.{Common.{◌≡◌, ◌≢◌, ◌⊎◌, ℕ, ◌+◌, ◌<◌, ◌≤◌, List, [], ◌∷◌, ◌++◌, length, drop, slice_get, slice_set, min, cond, Bool, true, refl, sym, ◌∙◌, arith, inl, inr, append_assoc, length-append, Option, Some, None, ◌==◌, Result, Ok, Err, IfErr, IfOk, IfSome, MatchResult, slice_index, ap, ◌↔◌, IsTrue, false, Contains, if◌then◌else◌}, lemmas.{Bool.false≢true, List.{append-nil, length-set, get_or-set_other, get_or_past, Sums.sum_by-append}, Grind.get_or-set_at, Option.{none-some, same_Some}}}
 use Rattle.std.specs.Prelude.{IsErr}
-use Rattle.claims.{specs.{declared.answers.Posted.Posted, Calls.PostChange, Seats.{SeatState, TableId, Adds, account_at}, declared.view.{Account.Account, Exchange.{Exchange, TheVariants.{NotFree as WasNotFree}}}, Views.after_all}, proofs.Seats.{account_after, adds_both, adds_none}}
-use Rattle.common.{specs.{Posts.{HoldsOnly, IsWorn, OnlyWorn}, declared.{places.Berth.Berth, shared.Own.Own, front.{Unaccepted.{Unaccepted, TheVariants.{Again, Blocked, Starved}}, Unopened.Unopened, Route.Route, Waiting.{Waiting, TheVariants.{No, Brief, Long}}}}, Hands.{HandState, ticket_room}, Acts.{Act, AreMade, Made, Register, Adopt}, Told.{cause_of, Seen, Waited}}, proofs.Holding.{holds_still, woke_behind_post, worn_still}}
+use Rattle.claims.{specs.{declared.answers.Posted.Posted, Calls.PostChange, Seats.{SeatState, TableId, Adds, account_at}, declared.view.{Account.Account, Exchange.Exchange}, Views.after_all}, proofs.Seats.{account_after, adds_both, adds_none}}
+use Rattle.common.{specs.{Posts.{HoldsOnly, IsWorn, OnlyWorn}, declared.{places.Berth.Berth, shared.Own.Own, front.{Unaccepted.{Unaccepted, TheVariants.{Again, Blocked, Starved}}, Unopened.Unopened, Route.Route, Waiting.{Waiting, TheVariants.{No, Brief, Long}}}}, Hands.{HandState, ticket_room}, Acts.Made, Told.{cause_of, Seen, Waited}}, proofs.Holding.{holds_still, woke_behind_post, worn_still}}
 use Rattle.sizes.specs.{declared.split.Part.Part, Splits.IsIn}
 use Rattle.ready.specs.declared.ticket.Ticket.{Ticket}
 use Rattle.relay_core.specs.Pairs.{PairState}
-use Rattle.rounds.{specs.{declared.episodes.Episodes.Episodes, Acts.{SeatAct, opening, ActsMade, AreTries, InOrder, all_reported, ArePosted, sweep_of}, Openings.{times, with_slot, AreOpened, OnlyTook, SlotsCounted, Between, Started, Connected, AcceptDone, OneAccepted, OnlyAccepted, unmarked, IsOpened, IsSpent, AreLost, IsNext, SameQueues, Fate, LeadGiven, RegisteredFirst, next_in, Opened, Dropped, Spent, NotFree, DropsFor, ActsOf, DropMade, TriedOnce, TriesMade, TriesNext, TryMade, lacks, lead_of}, Pollers.{PollerState, HasRisen, counted_up, HasOpenedAll}, Episodes.{flag_after, starved_after}, Rounds.{AcceptEnded, AllPosted, RoundInOrder, ListenerKept, ListensNoMore, ListensToOpen, Looked, OnlyAnswered, OnlyListens, RoundRefused, MayNotWait, WaitedAsMay, WaitsAsMay}}, proofs.Acts.{at_slot-append, acts_none, acts_one, acts_both, in_order, none_at, try_dropped, try_opened, tries_none, tries_both, holds_nothing_still, posted_none, posts_still, no_sweep}}
+use Rattle.rounds.{specs.{declared.episodes.Episodes.Episodes, Acts.{SeatAct, opening, ActsMade, AreTries, InOrder, all_reported, ArePosted, sweep_of}, Openings.{times, with_slot, AreOpened, OnlyTook, SlotsCounted, Between, Started, Connected, OnlyAccepted, unmarked, IsOpened, IsSpent, AreLost, IsNext, SameQueues, Fate, FateKept, LeadGiven, RegisteredFirst, next_in, Opened, Dropped, Spent, NotFree, DropsFor, ActsOf, DropMade, TriesMade, TriesNext, lacks, lead_of}, Pollers.{PollerState, HasRisen, counted_up, HasOpenedAll}, Episodes.{flag_after, starved_after}, Rounds.{AcceptEnded, AllPosted, RoundInOrder, ListenerKept, ListensNoMore, ListensToOpen, Looked, OnlyAnswered, OnlyListens, RoundRefused, MayNotWait, WaitedAsMay, WaitsAsMay}}, proofs.Acts.{at_slot-append, acts_none, acts_one, acts_both, in_order, none_at, try_dropped, try_opened, tries_none, tries_both, holds_nothing_still, posted_none, posts_still, no_sweep}}
 use Rattle.sizes.specs.declared.{cause.Cause.{Cause}, faults.ServerFault.{ServerFault, TheVariants.{Poll, Worn}}}
 use Rattle.claims.specs.declared.view.Exchange.TheVariants as exchange
 use Rattle.claims.specs.declared.answers.Posted.TheVariants as posted
@@ -87,6 +87,7 @@ connected_both {us} {bs} {p} {q} {r} {a} one two = record {
   poller = rw (two.poller, one.poller);
   own = λ slot out. omega (arith, one.own slot out, (rw one.poller at two.own) slot out, at_slot-append slot one.opened two.opened);
   tickets = rw (two.tickets, one.tickets) (append_assoc a.hand.tickets one.opened two.opened);
+  room = omega (arith, one.room, two.room, length-append us bs);
   ready = two.ready ∙ one.ready;
   gave = two.gave ∙ one.gave;
   grew = omega (arith, one.grew, two.grew);
@@ -101,8 +102,9 @@ SamePoller p q = record { table : q.table ≡ p.table; heavy : q.heavy ≡ p.hea
 pub none_opened : {p q : PollerState} {a b : Own} (tries : List SeatAct) (lost not_free : List ℕ) → AreTries [] not_free tries → ActsMade tries a.seat b.seat
     → InOrder (TriesNext p.part) tries p.table p.table → q.table ≡ p.table → q.heavy ≡ p.heavy → q.opened ≡ p.opened → HasRisen p.lost (length lost) q.lost
     → AreLost q not_free lost → OnlyAccepted p q → b.hand.tickets ≡ a.hand.tickets → b.ready ≡ a.ready → b.free.history.put ≡ a.free.history.put
-    → length a.free.history.taken ≤ length b.free.history.taken → SlotsCounted a b [] lost → Connected tries p q a b
-none_opened {a = a} tries lost not_free are made next table heavy opened unused why poller tickets ready gave grew slots = record {
+    → length a.free.history.taken ≤ length b.free.history.taken → SlotsCounted a b [] lost → ticket_room a.hand ≤ ticket_room b.hand + length tries
+    → Connected tries p q a b
+none_opened {a = a} tries lost not_free are made next table heavy opened unused why poller tickets ready gave grew slots room = record {
   opened = [];
   lost = lost;
   not_free = not_free;
@@ -117,6 +119,7 @@ none_opened {a = a} tries lost not_free are made next table heavy opened unused 
   poller = poller;
   own = λ slot out. refl;
   tickets = tickets ∙ sym (append-nil a.hand.tickets);
+  room = room;
   ready = ready;
   gave = gave;
   grew = grew;
@@ -129,46 +132,11 @@ room_same took = rw (took.capacity, took.tickets)
 -- slots were taken, and nothing was opened
 took_only : {p q : PollerState} {a b : Own} → SamePoller p q → OnlyTook a b → Connected [] p q a b
 took_only {a = a} same took = none_opened [] [] [] tries_none (rw took.seat (acts_none a.seat)) refl same.table same.heavy same.opened (counted_same same.lost) refl same.poller
-    took.tickets took.ready took.gave took.grew took.slots
-
-pub accept_took : {acted : List SeatAct → Type 0} {p q : PollerState} {a b : Own} → acted [] → SamePoller p q → OnlyTook a b → OneAccepted acted p q a b
-accept_took none same took = record { tries = []; acts = none; did = took_only same took; room = omega (arith, room_same took) }
+    took.tickets took.ready took.gave took.grew took.slots (omega (arith, room_same took))
 
 -- nothing happened
 pub took_none : (a : Own) → OnlyTook a a
 took_none a = search arith
-
--- nothing was opened, and nothing was taken
-pub accept_none : {acted : List SeatAct → Type 0} {p q : PollerState} {a : Own} → acted [] → SamePoller p q → OneAccepted acted p q a a
-accept_none {a = a} none same = accept_took none same (took_none a)
-
-pub done_of : {acted : List SeatAct → Type 0} {p q : PollerState} {a b : Own} → OneAccepted acted p q a b → AcceptDone acted p q a b
-done_of once = record { tries = once.tries; acts = once.acts; did = once.did }
-
-module _ {C S T : Type 0} {moved : Berth C T → S → Type 0} {named : Ticket → S → Type 0} {registered : C → C → T → S → Type 0} {made : Made S}
-    {accepted : C → Type 0} {may_tell : C → Route → Type 0} {p : PollerState} where
-  -- no try was made
-  pub no_tries : {s : S} → TriesMade moved named registered made accepted may_tell p s s []
-  no_tries = record { acts = refl }
-
-  pub accept_both : {s t u : S} {q r : PollerState} {a b c : Own} → AcceptDone (TriesMade moved named registered made accepted may_tell p s t) p q a b
-      → OneAccepted (TriesMade moved named registered made accepted may_tell q t u) q r b c → AcceptDone (TriesMade moved named registered made accepted may_tell p s u) p r a c
-  accept_both one two = record {
-    tries = one.tries ++ two.tries;
-    acts = record { acts = in_order _ _ _ _ _ _ one.acts.acts (rw one.did.poller at two.acts.acts) };
-    did = connected_both one.did two.did;
-  }
-
-  -- one try, after a change that opens nothing
-  pub once_after : {s t : S} {q r : PollerState} {a b : Own} → OneAccepted (TriesMade moved named registered made accepted may_tell q s t) q r a b → SamePoller p q
-      → OneAccepted (TriesMade moved named registered made accepted may_tell p s t) p r a b
-  once_after once same = record { tries = once.tries; acts = record { acts = rw same.poller at once.acts.acts }; did = connected_both (took_only same (took_none _)) once.did; room = once.room }
-
--- slots were taken for the next try
-pub accept_and_took : {C S T : Type 0} {moved : Berth C T → S → Type 0} {named : Ticket → S → Type 0} {registered : C → C → T → S → Type 0} {made : Made S}
-    {accepted : C → Type 0} {may_tell : C → Route → Type 0} {s t : S} {p q : PollerState} {a b c : Own} → AcceptDone (TriesMade moved named registered made accepted may_tell p s t) p q a b
-    → OnlyTook b c → AcceptDone (TriesMade moved named registered made accepted may_tell p s t) p q a c
-accept_and_took done took = accept_both done (accept_took no_tries (assumption) took)
 
 put_back : (xs : List ℕ) (x : ℕ) → slice_get xs 0 ≡ Some x → x ∷ drop 1 xs ≡ xs
 put_back [] x is = absurd (none-some x is)
@@ -180,45 +148,24 @@ times_first s xs x is = sym (ap (times s) (put_back xs x is)) ∙ times-append s
 -- what became of a slot that was taken in hand
 module _ {p q : PollerState} {a : Own} {hand : HandState} {slot : ℕ} (taken : hand ≡ record a.hand { slots = drop 1 a.hand.slots }) (is : slice_get a.hand.slots 0 ≡ Some slot) where
   -- no connection can be opened in it any more
-  pub opened_never : {acted : List SeatAct → Type 0} → acted [] → IsSpent p slot → q ≡ record p { lost = counted_up p.lost 1 } → OneAccepted acted p q a (record a { hand = hand })
-  opened_never none spent lost = record {
-    tries = [];
-    acts = none;
-    did = rw lost (none_opened [] (slot ∷ []) [] tries_none (acts_none a.seat) refl refl refl refl (counted_one _ p.lost _ refl) (inl (spent, refl)) refl
-        (rw taken) refl refl (omega arith) (λ s. rw taken (omega (arith, times_first s a.hand.slots slot is))));
-    room = rw taken (omega arith);
-  }
+  pub opened_never : IsSpent p slot → q ≡ record p { lost = counted_up p.lost 1 } → Connected [] p q a (record a { hand = hand })
+  opened_never spent lost =
+      rw lost (none_opened [] (slot ∷ []) [] tries_none (acts_none a.seat) refl refl refl refl (counted_one _ p.lost _ refl) (inl (spent, refl)) refl
+      (rw taken) refl refl (omega arith) (λ s. rw taken (omega (arith, times_first s a.hand.slots slot is))) (rw taken (omega arith)))
 
   -- its opening failed, and it is in hand again
-  pub opened_not : {acted : List SeatAct → Type 0} {kept : HandState} → acted (record { ticket = next_in p slot; exchanges = [] } ∷ []) → kept ≡ record hand { slots = hand.slots ++ slot ∷ [] }
-      → SamePoller p q → IsIn p.part slot → OneAccepted acted p q a (record a { hand = kept })
-  opened_not acts again same own =
+  pub opened_not : {kept : HandState} → kept ≡ record hand { slots = hand.slots ++ slot ∷ [] } → SamePoller p q → IsIn p.part slot
+      → Connected (record { ticket = next_in p slot; exchanges = [] } ∷ []) p q a (record a { hand = kept })
+  opened_not again same own =
       let try : SeatAct = record { ticket = next_in p slot; exchanges = [] } in
-      record {
-        tries = try ∷ [];
-        acts = acts;
-        did = none_opened (try ∷ []) [] [] (try_dropped (next_in p slot)) (acts_one try a.seat a.seat (adds_none slot a.seat))
-            (p.table, record { own = own; next = refl; entered = refl }, refl) same.table same.heavy same.opened (counted_same same.lost) refl same.poller
-            (rw (again, taken)) refl refl (omega arith) (λ s. rw (again, taken) (omega (arith, times_first s a.hand.slots slot is, times-append s (drop 1 a.hand.slots) (slot ∷ []))));
-        room = rw (again, taken) (omega arith);
-      }
+      none_opened (try ∷ []) [] [] (try_dropped (next_in p slot)) (acts_one try a.seat a.seat (adds_none slot a.seat))
+      (p.table, record { own = own; next = refl; entered = refl }, refl) same.table same.heavy same.opened (counted_same same.lost) refl same.poller
+      (rw (again, taken)) refl refl (omega arith) (λ s. rw (again, taken) (omega (arith, times_first s a.hand.slots slot is, times-append s (drop 1 a.hand.slots) (slot ∷ []))))
+      (rw (again, taken) (omega arith))
 
   -- a connection was placed in it, or it is no longer used
-  pub placed_there : {one_acts acted : List SeatAct → Type 0} {b : Own} → IsWorn a.seat ⊎ OneAccepted one_acts p q (with_slot slot (record a { hand = hand })) b
-      → ((tries : List SeatAct) → one_acts tries → acted tries) → IsWorn a.seat ⊎ OneAccepted acted p q a b
-  placed_there (inl is_worn) joined = inl is_worn
-  placed_there (inr once) joined = inr (record { tries = once.tries; acts = joined once.tries once.acts; did = rw (taken, put_back a.hand.slots slot is) at once.did; room = rw taken at once.room })
-
--- the acts of the one try for a connection, with those before its slot was adopted
-pub tried_once : {C S : Type 0} {accepted : C → Type 0} (made : C → Ticket → Made S) {opens : C → Ticket → S → S → Type 0} {placed finds : Ticket → S → S → Type 0}
-    {client : C} (t : Ticket) (a b c : S) → accepted client → (placed t b c → opens client t a c) → (finds t b c → AreMade (made client t) t.slot (Register ∷ Adopt ∷ []) a c)
-    → {tries : List SeatAct} (tried : TriedOnce placed finds t b c tries) → TryMade accepted made opens (record { ticket = t; exchanges = tried.exchanges }) a c
-tried_once {C} {S} made {opens} {placed} {finds} {client} t a b c given opened found tried = record { client = client; given = given; acts = by tried.exchanges tried.acts } where
-  by : (es : List Exchange) → ActsOf placed finds (λ t from to. ⊥) t es b c
-      → ActsOf (opens client) (λ t. AreMade (made client t) t.slot (Register ∷ Adopt ∷ [])) (DropMade (made client)) t es a c
-  by [] none = absurd none
-  by (WasNotFree ∷ rest) acts = found acts
-  by _ acts = opened acts
+  pub placed_there : {b : Own} {tries : List SeatAct} → Connected tries p q (with_slot slot (record a { hand = hand })) b → Connected tries p q a b
+  placed_there did = rw (taken, put_back a.hand.slots slot is) at did
 
 -- what a look at a seat says
 pub not_worn : (b : Bool) (seat : SeatState) → IsTrue b ↔ IsWorn seat → b ≡ false → IsWorn seat → ⊥
@@ -233,29 +180,19 @@ pub answered : (answer : Result (Unit {0}) ServerFault) (old new : PollerState) 
 answered (Ok done) old new had has more = ((λ refused. absurd (cc refused), λ is_worn. absurd (more is_worn)), λ failed. cc failed, tt)
 answered (Err fault) old new had has only = rw only.0 ((λ refused. only.1, λ is_worn. refl), λ failed. cc failed, inr (refl, only.1))
 
--- what became of an accepted connection that was placed, with the acts that were made from there on
-pub fate_by : {slot : ℕ} {p q : PollerState} {told opened : Type 0} {dropped : Cause → Type 0} {found : Type 0} {made : List Act → Type 0} {a b : SeatState}
-    → (IsOpened (next_in p slot) p q × told) ⊎ ((q ≡ record p { lost = counted_up p.lost 1 }) × Adds slot (exchange.NotFree ∷ []) a b × found)
-    → (told → opened) → (found → made (Register ∷ Adopt ∷ [])) → Fate slot opened dropped made p q a b
-fate_by (inl done) opens joined = Opened done.0 (opens done.1)
-fate_by (inr lost) opens joined = NotFree lost.0 lost.1 (joined lost.2)
-
 -- an opening, or a failure of it, changes at most this
 abbrev pub OnlyOpened : PollerState → PollerState → Type 0
 OnlyOpened p q = q ≡ record p { table = q.table; heavy = q.heavy; opened = q.opened; lost = q.lost; episodes = q.episodes }
 
-pub fate_only : (opened : ℕ → Type 0) (dropped : ℕ → Cause → Type 0) (made : ℕ → List Act → Type 0) (p q : PollerState) (a b : SeatState) (slots : List ℕ) → 1 ≤ length slots
-    → IfSome (slice_get slots 0) (λ slot. Fate slot (opened slot) (dropped slot) (made slot) p q a b) → OnlyOpened p q
-fate_only opened dropped made p q a b [] some fate = absurd (omega arith)
-fate_only opened dropped made p q a b (slot ∷ slots) some (Opened is told) = rw is
-fate_only opened dropped made p q a b (slot ∷ slots) some (Dropped why is because acts) = rw is
-fate_only opened dropped made p q a b (slot ∷ slots) some (Spent is spent none) = rw is
-fate_only opened dropped made p q a b (slot ∷ slots) some (NotFree is adds acts) = rw is
-
--- a call refuses what a call of its own refused, and no more is said where it does
-pub passed_up : {T E : Type 0} (r : Result T E) (e : E) (P : E → Type 0) → IsErrAnd r (λ y. y ≡ e) → P e → IfErr r P
-passed_up (Ok x) e P is p = tt
-passed_up (Err y) e P is p = rw is p
+pub fate_only : (P : ℕ → Type 0) (p q : PollerState) (slots : List ℕ) → 1 ≤ length slots → IfSome (slice_get slots 0) P
+    → ((slot : ℕ) → P slot → (fate : Fate) × FateKept fate slot p q) → OnlyOpened p q
+fate_only P p q [] some of_slot kept = absurd (omega arith)
+fate_only P p q (slot ∷ slots) some of_slot kept = by (kept slot of_slot) where
+  by : (fate : Fate) × FateKept fate slot p q → OnlyOpened p q
+  by (Opened, is) = rw is
+  by (Dropped why, is) = rw is
+  by (Spent, is) = rw is.0
+  by (NotFree, is) = rw is
 
 -- who can post no more could not before exchanges without a post
 pub worn_before : (slot : ℕ) (es : List Exchange) (a b : SeatState) → Adds slot es a b → (after_all es (account_at a slot)).posted ≡ (account_at a slot).posted → IsWorn b → IsWorn a
@@ -276,18 +213,16 @@ started_by t noted posted.Quiet woke a first second b only took change quiet lef
     inr (record { noted = noted; seat = adds_both _ _ _ _ _ _ took (adds_both _ _ (exchange.Release true ∷ []) _ _ _ change (rw due at left)); hand = rw due at hand })
 
 -- a connection was opened in its slot, unless its note could not be posted
-pub opened_once : {acted : List SeatAct → Type 0} {t : Ticket} {p q : PollerState} {a b : Own} {middle : SeatState} {found : ℕ}
-    → ((noted : ℕ) → acted (record { ticket = t; exchanges = opening found noted } ∷ [])) → IsWorn middle ⊎ Started t (record a { seat = middle }) b
-    → IsNext p t → Adds t.slot (exchange.Adopted found ∷ []) a.seat middle → SameQueues (record a { seat = middle }) b
-    → IsOpened t p q
-    → IsWorn a.seat ⊎ OneAccepted acted p q (with_slot t.slot a) b
-opened_once acts (inl is_worn) next adopted queues is = inl (worn_before _ _ _ _ adopted refl is_worn)
-opened_once {t = t} {p = p} {a = a} {found = found} acts (inr started) next adopted queues is =
+pub opened_once : {t : Ticket} {p q : PollerState} {a b : Own} {middle : SeatState} {found : ℕ} → IsWorn middle ⊎ Started t (record a { seat = middle }) b
+    → IsNext p t → Adds t.slot (exchange.Adopted found ∷ []) a.seat middle → SameQueues (record a { seat = middle }) b → IsOpened t p q
+    → IsWorn a.seat ⊎ ((found : ℕ) × (noted : ℕ) × Connected (record { ticket = t; exchanges = opening found noted } ∷ []) p q (with_slot t.slot a) b)
+opened_once (inl is_worn) next adopted queues is = inl (worn_before _ _ _ _ adopted refl is_worn)
+opened_once {t = t} {p = p} {a = a} {found = found} (inr started) next adopted queues is =
     let try : SeatAct = record { ticket = t; exchanges = opening found started.noted } in
-    inr (rw is (record {
-      tries = try ∷ [];
-      acts = acts started.noted;
-      did = record {
+    inr (
+      found,
+      started.noted,
+      rw is (record {
         opened = t ∷ [];
         lost = [];
         not_free = [];
@@ -302,13 +237,13 @@ opened_once {t = t} {p = p} {a = a} {found = found} acts (inr started) next adop
         poller = refl;
         own = λ slot out. none_at t slot (λ same. out (rw same next.own));
         tickets = rw started.hand;
+        room = rw started.hand (omega (arith, length-append a.hand.tickets (t ∷ [])));
         ready = queues.ready;
         gave = rw queues.free;
         grew = rw queues.free (omega arith);
         slots = λ s. rw (queues.free, started.hand) (omega (arith, times-append s (t.slot ∷ []) a.hand.slots));
-      };
-      room = rw started.hand (omega (arith, length-append a.hand.tickets (t ∷ [])));
-    }))
+      }),
+    )
 
 -- what holds between two steps still holds after one that the seat did not see, or that posted
 pub between_still : {claims : TableId} {a b : Own} {p q : PollerState} → Between claims a p → b.seat ≡ a.seat → q.table ≡ p.table → Between claims b q
@@ -348,27 +283,68 @@ registered_drop made (Err why) acts = acts
 none_posted : {S : Type 0} {made : Made S} {part : Part} {tickets : List Ticket} {a : Own} {s : S} → tickets ≡ [] → AllPosted made part tickets a a s s
 none_posted {a = a} none = rw none (record { made = refl; posted = posted_none a.seat a.hand; own = λ slot out. refl; queues = assumption })
 
--- A round: the reports were delivered, a sweep was made or none, and connections were opened
+-- tries of whose acts this is known, and what they did; and no more than one
+abbrev pub Tried : (List SeatAct → Type 0) → PollerState → PollerState → Own → Own → Type 0
+Tried acts p q a b = (tries : List SeatAct) × acts tries × Connected tries p q a b
+
+abbrev pub TriedOnce : (List SeatAct → Type 0) → PollerState → PollerState → Own → Own → Type 0
+TriedOnce acts p q a b = (tries : List SeatAct) × acts tries × Connected tries p q a b × (length tries ≤ 1)
+
+-- A round: the reports were delivered, a sweep was made or none, and connections were opened, with the acts of the tries
 module _ {C S T : Type 0} {moved : Berth C T → S → Type 0} {named : Ticket → S → Type 0} {registered : C → C → T → S → Type 0} {made : Made S}
     {accepted : C → Type 0} {may_tell : C → Route → Type 0} where
+  -- no try was made
+  pub no_tries : {p : PollerState} {s : S} → TriesMade moved named registered made accepted may_tell p s s []
+  no_tries = record { acts = refl }
+
+  pub accept_took : {p q : PollerState} {a b : Own} {s : S} → SamePoller p q → OnlyTook a b → TriedOnce (TriesMade moved named registered made accepted may_tell p s s) p q a b
+  accept_took same took = ([], no_tries, took_only same took, omega arith)
+
+  pub accept_none : {p q : PollerState} {a : Own} {s : S} → SamePoller p q → TriedOnce (TriesMade moved named registered made accepted may_tell p s s) p q a a
+  accept_none {a = a} same = accept_took same (took_none a)
+
+  -- one try was made
+  pub tried : {p q : PollerState} {a b : Own} {s t : S} {try : SeatAct} (client : C) → accepted client
+      → ActsOf moved named registered made may_tell p.opening p.second client try.ticket try.exchanges s t → Connected (try ∷ []) p q a b
+      → TriedOnce (TriesMade moved named registered made accepted may_tell p s t) p q a b
+  tried client given acts did = (_, record { acts = (_, record { client = client; given = given; acts = acts }, refl) }, did, omega arith)
+
+  pub done_of : {p q : PollerState} {a b : Own} {s t : S} → TriedOnce (TriesMade moved named registered made accepted may_tell p s t) p q a b
+      → Tried (TriesMade moved named registered made accepted may_tell p s t) p q a b
+  done_of once = (once.0, once.1, once.2)
+
+  pub accept_both : {p q r : PollerState} {a b c : Own} {s t u : S} → Tried (TriesMade moved named registered made accepted may_tell p s t) p q a b
+      → TriedOnce (TriesMade moved named registered made accepted may_tell q t u) q r b c → Tried (TriesMade moved named registered made accepted may_tell p s u) p r a c
+  accept_both one two = (one.0 ++ two.0, record { acts = in_order _ _ _ _ _ _ one.1.acts (rw one.2.poller at two.1.acts) }, connected_both one.2 two.2)
+
+  -- one try, after a change that opens nothing
+  pub once_after : {p q r : PollerState} {a b : Own} {s t : S} → TriedOnce (TriesMade moved named registered made accepted may_tell q s t) q r a b → SamePoller p q
+      → TriedOnce (TriesMade moved named registered made accepted may_tell p s t) p r a b
+  once_after once same = (once.0, record { acts = rw same.poller at once.1.acts }, connected_both (took_only same (took_none _)) once.2, once.3)
+
+  -- slots were taken for the next try
+  pub accept_and_took : {p q : PollerState} {a b c : Own} {s t : S} → Tried (TriesMade moved named registered made accepted may_tell p s t) p q a b → OnlyTook b c
+      → Tried (TriesMade moved named registered made accepted may_tell p s t) p q a c
+  accept_and_took done took = accept_both done (accept_took (assumption) took)
+
   pub round_of : {from delivered_at timed_at to : S} {p q r v w t : PollerState} {a b c d e : Own} → Looked p q → OnlyTook a b
       → AllPosted made q.part (all_reported q.table q.batch) b c from delivered_at → r ≡ record q { accepting = r.accepting }
       → AllPosted made r.part (sweep_of r v) c d delivered_at timed_at → v ≡ record r { second = v.second; swept = v.swept }
-      → AcceptDone (TriesMade moved named registered made accepted may_tell v timed_at to) v w d e → (IsWorn d.seat → IsWorn e.seat)
+      → Tried (TriesMade moved named registered made accepted may_tell v timed_at to) v w d e → (IsWorn d.seat → IsWorn e.seat)
       → t ≡ record w { seen = t.seen; over = t.over; episodes = t.episodes } → RoundInOrder moved named registered made accepted may_tell p t a e from to
-  round_of {delivered_at = delivered_at} {timed_at = timed_at} {c = c} {e = e} looked took reports flag sweeps sweep accepted still_then end =
-      let done = accepted.did in
+  round_of {delivered_at = delivered_at} {timed_at = timed_at} {c = c} {e = e} looked took reports flag sweeps sweep tried still_then end =
+      let done = tried.2 in
       let still_all : IsWorn c.seat → IsWorn e.seat = λ is. still_then (rw (sweeps.posted.still is).0 is) in
       rw end (record {
         delivered = delivered_at;
         timed = timed_at;
         reports = rw (done.poller, sweep, flag) (rw looked at reports.made);
         sweep = rw done.poller (rw (flag, looked) at sweeps.made);
-        tries = record { acts = rw done.poller accepted.acts.acts };
+        tries = record { acts = rw done.poller tried.1.acts };
         round = record {
           reports = reports.posted.posts;
           sweep = sweeps.posted.posts;
-          tries = accepted.tries;
+          tries = tried.0;
           opened = done.opened;
           lost = done.lost;
           not_free = done.not_free;
@@ -397,7 +373,7 @@ module _ {C S T : Type 0} {moved : Berth C T → S → Type 0} {named : Ticket �
   -- nothing was reported, nothing was posted for time, and nothing was accepted
   pub round_ended : {s : S} {p q : PollerState} {a b : Own} → Looked p q → q.batch ≡ [] → OnlyTook a b → RoundInOrder moved named registered made accepted may_tell p q a b s s
   round_ended {q = q} looked none took = round_of {r = q} {v = q} {w = q} {t = q} looked took (none_posted (rw none)) refl (none_posted (no_sweep q q.swept refl)) refl
-      (done_of (accept_none no_tries assumption)) (λ is. is) refl
+      (done_of (accept_none assumption)) (λ is. is) refl
 
 or_more : {A B X : Type 0} → A ⊎ X → (A → B ⊎ X) → B ⊎ X
 or_more (inl a) more = more a

@@ -107,10 +107,6 @@ InOrder {S} step (x ∷ xs) from to = (between : S) × step x from between × In
 abbrev pub PostsMade : {S : Type 0} → Made S → List Ticket → S → S → Type 0
 PostsMade made tickets from to = InOrder (λ (t : Ticket). made PostAct t.slot) tickets from to
 
--- a note was posted for each report of a connection
-abbrev pub Delivered : List ℕ → List ℕ → SeatState → SeatState → HandState → HandState → Type 0
-Delivered generations batch old new had has = ArePosted (all_reported generations batch) old new had has
-
 -- the last connection that was opened in a slot, if one was
 abbrev pub last_in : List ℕ → ℕ → Option Ticket
 last_in table slot =

@@ -1,6 +1,6 @@
 -- What accepting and opening connections does to what the poller's thread owns.
 use Rattle.std.specs.{Prelude.{◌≡◌, ◌⊎◌, ℕ, ◌+◌, ◌<◌, ◌≤◌, ◌==◌, Bool, true, false, List, [], ◌∷◌, ◌++◌, length, drop, map, Option, Some, None, Result, Ok, Err, replicate, slice_index, slice_set}, List.count_by, declared.net.socket_addr.SocketAddrV4.SocketAddrV4, Net.{Addr.ipv4_octets, Socket.{v4_ip, v4_port}}}
-use Rattle.claims.specs.{declared.view.Exchange.Exchange, Seats.{SeatState, TableId, Adds, HoldsNothing}}
+use Rattle.claims.specs.{declared.view.Exchange.Exchange, Seats.{TableId, Adds, HoldsNothing}}
 use Rattle.ready.specs.declared.ticket.Ticket.{Ticket}
 use Rattle.common.specs.{declared.{shared.Own.Own, places.Berth.Berth, front.{Unopened.Unopened, Route.Route}}, Hands.ticket_room, Told.Seen}
 use Rattle.sizes.specs.{declared.split.Part.Part, Splits.IsIn}
@@ -126,7 +126,8 @@ OnlyAccepted old new = new ≡ record old {
 
 -- By these tries the `opened` connections were opened in the poller's own slots, each with its slot's next generation,
 -- one note and one ticket, which is in hand after the others, and no heavy marks. The `lost` slots are no longer used. Each
--- slot that was taken was opened, or is in hand, or is no longer used. The seat did nothing else
+-- slot that was taken was opened, or is in hand, or is no longer used. Each try leaves at most one ticket more in hand. The
+-- seat did nothing else
 pub record Connected (tries : List SeatAct) (old new : PollerState) (had has : Own) : Type 0 where
   pub opened : List Ticket
   pub lost : List ℕ
@@ -142,6 +143,7 @@ pub record Connected (tries : List SeatAct) (old new : PollerState) (had has : O
   pub poller : OnlyAccepted old new
   pub own : AreIn old.part opened
   pub tickets : has.hand.tickets ≡ had.hand.tickets ++ opened
+  pub room : ticket_room had.hand ≤ ticket_room has.hand + length tries
   pub ready : has.ready ≡ had.ready
   pub gave : has.free.history.put ≡ had.free.history.put
   pub grew : length had.free.history.taken ≤ length has.free.history.taken
@@ -207,21 +209,6 @@ Naming named wires made ticket act slot from to = made act slot from to
 abbrev pub Wires : {S C T : Type 0} → (C → T → S → Type 0) → S → Type 0
 Wires {C = C} {T = T} registered to = (client : C) × (target : T) × registered client target to
 
--- The acts of an opening of this client, which put a fresh connection into its place. Its wires are those that Register left, of
--- this very client and of the target that it opened
-abbrev pub OpensFresh : {S C T : Type 0} → (Berth C T → S → Type 0) → (Ticket → S → Type 0) → (C → C → T → S → Type 0) → act.Made S
-    → (C → Route → Type 0) → PollerState → C → Ticket → S → S → Type 0
-OpensFresh moved named registered made may_tell p client ticket from to =
-    (berth : Berth _ _) × IsFresh (may_tell client) p.opening p.second ticket berth
-    × act.AreMade (Putting moved (Naming named (registered client berth.client berth.target) made ticket) berth) ticket.slot
-    act.open_slot from to
-
--- the acts of a try with these exchanges: it opened its connection, or found its slot not to be free, or dropped it
-abbrev pub ActsOf : {S : Type 0} → (opens finds drops : Ticket → S → S → Type 0) → Ticket → List Exchange → S → S → Type 0
-ActsOf opens finds drops ticket [] from to = drops ticket from to
-ActsOf opens finds drops ticket (exchange.NotFree ∷ rest) from to = finds ticket from to
-ActsOf opens finds drops ticket exchanges from to = opens ticket from to
-
 -- of a connection that is dropped no act was made, or its sockets were registered, which are closed
 abbrev pub DropMade : {S : Type 0} → (Ticket → act.Made S) → Ticket → S → S → Type 0
 DropMade made ticket from to = (to ≡ from) ⊎ act.AreMade (made ticket) ticket.slot (act.Register ∷ []) from to
@@ -231,20 +218,55 @@ abbrev pub RegisteredFirst : {S T E : Type 0} → (Ticket → act.Made S) → Ti
 RegisteredFirst made ticket (Ok opened) from to = made ticket act.Register ticket.slot from to
 RegisteredFirst made ticket (Err cause) from to = DropMade made ticket from to
 
--- the acts of a try, and no others, for a client that accept(2) gave
-pub record TryMade {C S : Type 0} (accepted : C → Type 0) (made : C → Ticket → act.Made S) (opens : C → Ticket → S → S → Type 0)
-    (try : SeatAct) (from to : S) : Type 0 where
-  pub client : C
-  pub given : accepted client
-  pub acts : ActsOf (opens client) (λ t. act.AreMade (made client t) t.slot (act.Register ∷ act.Adopt ∷ [])) (DropMade (made client))
-      try.ticket try.exchanges from to
+-- a connection's sockets were registered, but its slot was found not to be free
+abbrev pub FindsHeld : {S : Type 0} → (Ticket → act.Made S) → Ticket → S → S → Type 0
+FindsHeld made ticket from to = act.AreMade (made ticket) ticket.slot (act.Register ∷ act.Adopt ∷ []) from to
 
--- the acts of a poller's tries, in order, and no others: each was made for a client as accept(2) gave it
-pub record TriesMade {C S T : Type 0} (moved : Berth C T → S → Type 0) (named : Ticket → S → Type 0)
-    (registered : C → C → T → S → Type 0) (made : act.Made S) (accepted : C → Type 0) (may_tell : C → Route → Type 0)
-    (p : PollerState) (from to : S) (tries : List SeatAct) : Type 0 where
-  pub acts : InOrder (TryMade accepted (λ client. Naming named (Wires (registered client)) made)
-      (OpensFresh moved named registered made may_tell p)) tries from to
+-- what became of an accepted connection: it was opened; it was dropped, for this cause; the slot can have no connection; or
+-- one exchange found the slot not free
+pub data Fate : Type 0 where
+  Opened : Fate
+  Dropped : Cause → Fate
+  Spent : Fate
+  NotFree : Fate
+
+-- What is known of a poller's acts: that each was `made`, which connection one `moved` into its place, and of one that
+-- registered sockets, under which names and as which wires. Also which routes the front may tell of a client, how the poller
+-- opens connections, and the second of its round
+module _ {C S T : Type 0} (moved : Berth C T → S → Type 0) (named : Ticket → S → Type 0) (registered : C → C → T → S → Type 0)
+    (made : act.Made S) (may_tell : C → Route → Type 0) (opening : Opening) (second : ℕ) where
+  -- The acts of an opening of this client, which put a fresh connection into its place. Its wires are those that Register left,
+  -- of this very client and of the target that it opened
+  abbrev pub OpensFresh : C → Ticket → S → S → Type 0
+  OpensFresh client ticket from to =
+      (berth : Berth C T) × IsFresh (may_tell client) opening second ticket berth
+      × act.AreMade (Putting moved (Naming named (registered client berth.client berth.target) made ticket) berth) ticket.slot
+      act.open_slot from to
+
+  -- which acts were made for this client, by what became of its connection
+  abbrev pub FateMade : Fate → C → Ticket → S → S → Type 0
+  FateMade Opened client ticket from to = OpensFresh client ticket from to
+  FateMade (Dropped why) client ticket from to = DropMade (Naming named (Wires (registered client)) made) ticket from to
+  FateMade Spent client ticket from to = to ≡ from
+  FateMade NotFree client ticket from to = FindsHeld (Naming named (Wires (registered client)) made) ticket from to
+
+  -- the acts of a try for this client, by its exchanges: it dropped it, or found its slot not to be free, or opened it
+  abbrev pub ActsOf : C → Ticket → List Exchange → S → S → Type 0
+  ActsOf client ticket [] from to = DropMade (Naming named (Wires (registered client)) made) ticket from to
+  ActsOf client ticket (exchange.NotFree ∷ rest) from to = FindsHeld (Naming named (Wires (registered client)) made) ticket from to
+  ActsOf client ticket exchanges from to = OpensFresh client ticket from to
+
+  -- the acts of a try, and no others, for a client that accept(2) gave
+  pub record TryMade (accepted : C → Type 0) (try : SeatAct) (from to : S) : Type 0 where
+    pub client : C
+    pub given : accepted client
+    pub acts : ActsOf client try.ticket try.exchanges from to
+
+module _ {C S T : Type 0} (moved : Berth C T → S → Type 0) (named : Ticket → S → Type 0) (registered : C → C → T → S → Type 0)
+    (made : act.Made S) (accepted : C → Type 0) (may_tell : C → Route → Type 0) where
+  -- the acts of a poller's tries, in order, and no others: each was made for a client as accept(2) gave it
+  pub record TriesMade (p : PollerState) (from to : S) (tries : List SeatAct) : Type 0 where
+    pub acts : InOrder (TryMade moved named registered made may_tell p.opening p.second accepted) tries from to
 
 -- Why an accepted connection is closed unopened: the front refused to open it; or the front opened it, but an address
 -- for the line is missing, or memory ran out
@@ -258,25 +280,23 @@ DropsFor may_refuse may_tell proxy cause.Address = LeadGiven may_tell proxy None
 abbrev pub next_in : PollerState → ℕ → Ticket
 next_in p slot = record { slot = slot; generation = slice_index p.table slot + 1 }
 
--- What became of an accepted connection for this slot, all that changed of the poller, what is logged and counted of it,
--- and which acts were made: it was opened; it was dropped, for this cause; the slot can have no connection; or one exchange
--- found the slot not free
-pub data Fate (slot : ℕ) (opened : Type 0) (dropped : Cause → Type 0) (made : List act.Act → Type 0)
-    (old new : PollerState) (had has : SeatState) : Type 0 where
-  Opened : IsOpened (next_in old slot) old new → opened → Fate slot opened dropped made old new had has
-  Dropped : (why : Cause) → DropLogged why old new → dropped why → made [] ⊎ made (act.Register ∷ [])
-      → Fate slot opened dropped made old new had has
-  Spent : new ≡ record old { lost = counted_up old.lost 1 } → IsSpent old slot → made [] → Fate slot opened dropped made old new had has
-  NotFree : new ≡ record old { lost = counted_up old.lost 1 } → Adds slot (exchange.NotFree ∷ []) had has
-      → made (act.Register ∷ act.Adopt ∷ []) → Fate slot opened dropped made old new had has
+-- all that changed of the poller, by what became of a connection for this slot
+abbrev pub FateKept : Fate → ℕ → PollerState → PollerState → Type 0
+FateKept Opened slot old new = IsOpened (next_in old slot) old new
+FateKept (Dropped why) slot old new = DropLogged why old new
+FateKept Spent slot old new = (new ≡ record old { lost = counted_up old.lost 1 }) × IsSpent old slot
+FateKept NotFree slot old new = new ≡ record old { lost = counted_up old.lost 1 }
 
 -- the log was passed the line of an opening, which was counted at its slot
 abbrev pub OpeningLogged : (Level → Option (List ℕ) → Type 0) → (ℕ → Event → Type 0) → Ticket → Type 0
 OpeningLogged logged counted t = logged level.Info (Some (open_message t.slot t.generation)) × counted t.slot event.Opened
 
--- a drop was counted at this slot, and the front heard of it if memory was lacking
-abbrev pub DropCounted : (ℕ → Event → Type 0) → Type 0 → ℕ → Cause → Type 0
-DropCounted counted lacked slot why = counted slot event.Dropped × (why ≡ cause.Memory → lacked)
+-- what is logged and counted: an opening's line, and a drop's event; of a drop the front hears if memory was lacking
+abbrev pub FateTold : (Level → Option (List ℕ) → Type 0) → (ℕ → Event → Type 0) → Type 0 → Fate → Ticket → Type 0
+FateTold logged counted lacked Opened t = OpeningLogged logged counted t
+FateTold logged counted lacked (Dropped why) t = counted t.slot event.Dropped × (why ≡ cause.Memory → lacked)
+FateTold logged counted lacked Spent t = Unit {0}
+FateTold logged counted lacked NotFree t = Unit {0}
 
 -- this is the next connection of one of the poller's own slots
 pub record IsNext (p : PollerState) (t : Ticket) : Type 0 where
@@ -284,26 +304,6 @@ pub record IsNext (p : PollerState) (t : Ticket) : Type 0 where
   pub own : IsIn p.part t.slot
   pub generation : t.generation ≡ slice_index p.table t.slot + 1
   pub most : t.generation ≤ last_generation
-
--- one try was made for this connection, by these acts
-pub record TriedOnce {S : Type 0} (opens finds : Ticket → S → S → Type 0) (t : Ticket) (from to : S)
-    (tries : List SeatAct) : Type 0 where
-  pub exchanges : List Exchange
-  pub once : tries ≡ record { ticket = t; exchanges = exchanges } ∷ []
-  pub acts : ActsOf opens finds (λ t from to. ⊥) t exchanges from to
-
--- what accepting did, by tries of whose acts this is known
-pub record AcceptDone (acted : List SeatAct → Type 0) (old new : PollerState) (had has : Own) : Type 0 where
-  pub tries : List SeatAct
-  pub acts : acted tries
-  pub did : Connected tries old new had has
-
--- one try of accept(2), which leaves at most one ticket more in hand
-pub record OneAccepted (acted : List SeatAct → Type 0) (old new : PollerState) (had has : Own) : Type 0 where
-  pub tries : List SeatAct
-  pub acts : acted tries
-  pub did : Connected tries old new had has
-  pub room : ticket_room had.hand ≤ ticket_room has.hand + 1
 
 -- before the oldest slot in hand was taken to be opened
 abbrev pub with_slot : ℕ → Own → Own

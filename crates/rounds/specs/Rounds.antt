@@ -43,22 +43,23 @@ pub record RoundDone (old new : PollerState) (had has : Own) : Type 0 where
 
 -- A round with its acts, in order, and no others: for each report of a connection a post at its slot, also by a worn seat;
 -- then such a post for each connection of the sweep; and then the acts of its tries
-pub record RoundInOrder {C S T : Type 0} (moved : Berth C T → S → Type 0) (named : Ticket → S → Type 0)
-    (registered : C → C → T → S → Type 0) (made : Made S) (accepted : C → Type 0) (may_tell : C → Route → Type 0)
-    (old new : PollerState) (had has : Own) (from to : S) : Type 0 where
-  pub round : RoundDone old new had has
-  pub delivered : S
-  pub timed : S
-  pub reports : PostsMade made (all_reported old.table new.batch) from delivered
-  pub sweep : PostsMade made (sweep_of old new) delivered timed
-  pub tries : TriesMade moved named registered made accepted may_tell new timed to round.tries
+module _ {C S T : Type 0} (moved : Berth C T → S → Type 0) (named : Ticket → S → Type 0) (registered : C → C → T → S → Type 0)
+    (made : Made S) (accepted : C → Type 0) (may_tell : C → Route → Type 0) where
+  pub record RoundInOrder (old new : PollerState) (had has : Own) (from to : S) : Type 0 where
+    pub round : RoundDone old new had has
+    pub delivered : S
+    pub timed : S
+    pub reports : PostsMade made (all_reported old.table new.batch) from delivered
+    pub sweep : PostsMade made (sweep_of old new) delivered timed
+    pub tries : TriesMade moved named registered made accepted may_tell new timed to round.tries
 
 -- For these connections, all of a poller's own slots, a note was posted, and an act made. The queues are as they were
-pub record AllPosted {S : Type 0} (acts : Made S) (part : Part) (tickets : List Ticket) (had has : Own) (from to : S) : Type 0 where
-  pub made : PostsMade acts tickets from to
-  pub posted : ArePosted tickets had.seat has.seat had.hand has.hand
-  pub own : AreIn part tickets
-  pub queues : SameQueues had has
+module _ {S : Type 0} (acts : Made S) (part : Part) where
+  pub record AllPosted (tickets : List Ticket) (had has : Own) (from to : S) : Type 0 where
+    pub made : PostsMade acts tickets from to
+    pub posted : ArePosted tickets had.seat has.seat had.hand has.hand
+    pub own : AreIn part tickets
+    pub queues : SameQueues had has
 
 -- no free slot is in hand
 abbrev pub NoSlot : Own → Type 0

@@ -2,7 +2,7 @@
 ghost use Rattle.std.specs.{Prelude.{◌≡◌, ◌-◌, ◌<◌, ◌≤◌, ◌↔◌, [], length, IsTrue, IfOk, IfSome, MatchResult, Contains}, List.cons_option};
 ghost use Rattle.claims.specs.Seats.{HoldsNothing};
 ghost use Rattle.common.specs.{Hands.ticket_room, Posts.{IsWorn, OnlyWorn}};
-ghost use Rattle.rounds.specs.Acts.{all_reported, connection_reported, ArePosted, Delivered, PostsMade};
+ghost use Rattle.rounds.specs.Acts.{all_reported, connection_reported, ArePosted, PostsMade};
 
 use claims::{ClaimSeat, Claims, Posted};
 use common::{Acts, Hand};
@@ -32,9 +32,11 @@ pub fn deliver<A: Acts>(
     requires sized { length table.now ≡ claims.now.words }
     requires room { length batch.now ≤ ticket_room hand.old }
     ensures made { PostsMade A.made (all_reported table.now batch.now) acts.old acts.new }
-    ensures delivered { Delivered table.now batch.now seat.old seat.new hand.old hand.new }
-    ensures listener { IfOk result (λ connection_reported. IsTrue connection_reported ↔ Contains batch.now 0) }
+    ensures delivered { ArePosted (all_reported table.now batch.now) seat.old seat.new hand.old hand.new }
+    ensures listener { IfOk result (λ listener. IsTrue listener ↔ Contains batch.now 0) }
     ensures worn { MatchResult result (λ _. IsWorn seat.new → ⊥) (λ fault. OnlyWorn fault seat.new) }
+
+    // What follows from `delivered`:
     ensures idle { HoldsNothing seat.new }
 {
     for number in batch {

@@ -1,11 +1,12 @@
 //! Opens an accepted connection.
-ghost use Rattle.std.specs.Prelude.{◌≡◌, ◌+◌, ◌<◌, ◌≤◌, [], ◌∷◌, ◌++◌, drop, length, Ok, Err, Some, None, ◌⊎◌, IfOk, IfErr, MatchResult, OnOk, OnErr, OnSome, IfSome, IsNone, ℕ, slice_get, slice_index};
+ghost use Rattle.std.specs.Prelude.{◌≡◌, ◌+◌, ◌<◌, ◌≤◌, [], ◌∷◌, ◌++◌, drop, length, Ok, Err, Some, None, ◌⊎◌, IfOk, IfErr, MatchResult, OnOk, OnErr, OnSome, IfSome, IsNone, ℕ, List, slice_get, slice_index};
 ghost use Rattle.claims.specs.Seats.{Adds, HoldsNothing, OnlyAt};
 ghost use Rattle.relay_core.specs.{Pairs.fresh, Proxy.proxy_line};
-ghost use Rattle.rounds.specs.{Openings.{lacks, lead_of, next_in, Between, DropCounted, DropLogged, DropsFor, Fate, IsFresh, IsNext, IsOpened, IsSpent, LeadGiven, Naming, OneAccepted, OpeningLogged, OpensFresh, Putting, RegisteredFirst, SameQueues, Started, TriedOnce, TriesMade, Wires, of_end, with_slot}, Pollers.{counted_up, AreGenerations}};
+ghost use Rattle.rounds.specs.{Acts.{SeatAct}, Openings.{lacks, lead_of, next_in, Between, Connected, DropLogged, DropsFor, Fate, FateKept, FateMade, FateTold, IsFresh, IsNext, IsOpened, IsSpent, LeadGiven, Naming, NotFree, OpeningLogged, Putting, RegisteredFirst, SameQueues, Started, TriesMade, Wires, of_end, with_slot}, Pollers.{counted_up, AreGenerations}};
 ghost use Rattle.common.specs.{Acts.{AreMade, placing}, Posts.{HoldsOnly, IsWorn}, Hands.ticket_room};
 ghost use Rattle.token.specs.Names.{last_generation};
 ghost use Rattle.common.specs.Acts as act;
+ghost use Rattle.rounds.specs.Acts as seat_act;
 ghost use Rattle.claims.specs.declared.view.Exchange.TheVariants as exchange;
 ghost use Rattle.token.specs.declared.side.Side.TheVariants as side;
 
@@ -78,15 +79,14 @@ pub fn open<F: Front + Counting, A: Moves<F>, R: Wait + Logs>(
     requires slot { 1 ≤ length own.old.hand.slots }
     requires accepted { F.accepted client }
     ensures between { Between shared.now.claims own.new poller.new }
-    ensures counted { IfSome (slice_get own.old.hand.slots 0) (λ slot. Fate slot
-        (OpeningLogged (R.logged rt.now) F.counted (next_in poller.old slot)
-        × OpensFresh A.moved A.named A.registered A.made F.may_tell poller.old client (next_in poller.old slot) acts.old acts.new)
-        (DropCounted F.counted F.lacked slot)
-        (λ made. AreMade (Naming A.named (Wires (A.registered client)) A.made (next_in poller.old slot)) slot made acts.old acts.new)
-        poller.old poller.new own.old.seat own.new.seat) }
-    ensures done { IsWorn own.old.seat
-        ⊎ OneAccepted (TriesMade A.moved A.named A.registered A.made F.accepted F.may_tell poller.old acts.old acts.new)
-        poller.old poller.new own.old own.new }
+    ensures counted { IfSome (slice_get own.old.hand.slots 0) (λ slot. (fate : Fate) × FateKept fate slot poller.old poller.new
+        × FateTold (R.logged rt.now) F.counted F.lacked fate (next_in poller.old slot)
+        × FateMade A.moved A.named A.registered A.made F.may_tell poller.old.opening poller.old.second
+        fate client (next_in poller.old slot) acts.old acts.new
+        × (fate ≡ NotFree → Adds slot (exchange.NotFree ∷ []) own.old.seat own.new.seat)) }
+    ensures done { IsWorn own.old.seat ⊎ ((tries : List SeatAct)
+        × TriesMade A.moved A.named A.registered A.made F.accepted F.may_tell poller.old acts.old acts.new tries
+        × Connected tries poller.old poller.new own.old own.new × (length tries ≤ 1)) }
     ensures ready { own.new.ready ≡ own.old.ready }
 {
     let Some(names) = next_names(&mut own.hand, poller) else {
@@ -289,15 +289,16 @@ fn place<F: Front + Counting, A: Moves<F>, R: Wait + Logs>(
     requires next { IsNext poller.old ticket }
     requires room { 1 ≤ ticket_room own.old.hand }
     ensures between { Between shared.now.claims own.new poller.new }
-    ensures done { IsWorn own.old.seat ⊎ OneAccepted
-        (TriedOnce (λ t. AreMade (Putting A.moved A.made berth.value) t.slot placing)
-        (λ t. AreMade A.made t.slot (act.Adopt ∷ [])) ticket acts.old acts.new)
-        poller.old poller.new (with_slot ticket.slot own.old) own.new }
-    ensures counted { (IsOpened ticket poller.old poller.new × (OpeningLogged (R.logged rt.now) F.counted ticket
-        × AreMade (Putting A.moved A.made berth.value) ticket.slot placing acts.old acts.new))
+    ensures placed { (IsOpened ticket poller.old poller.new × OpeningLogged (R.logged rt.now) F.counted ticket
+        × AreMade (Putting A.moved A.made berth.value) ticket.slot placing acts.old acts.new
+        × (IsWorn own.old.seat ⊎ ((found : ℕ) × (noted : ℕ)
+        × Connected (record { ticket = ticket; exchanges = seat_act.opening found noted } ∷ []) poller.old poller.new
+        (with_slot ticket.slot own.old) own.new)))
         ⊎ ((poller.new ≡ record poller.old { lost = counted_up poller.old.lost 1 })
         × Adds ticket.slot (exchange.NotFree ∷ []) own.old.seat own.new.seat
-        × AreMade A.made ticket.slot (act.Adopt ∷ []) acts.old acts.new) }
+        × AreMade A.made ticket.slot (act.Adopt ∷ []) acts.old acts.new
+        × Connected (record { ticket = ticket; exchanges = exchange.NotFree ∷ [] } ∷ []) poller.old poller.new
+        (with_slot ticket.slot own.old) own.new) }
     ensures ready { own.new.ready ≡ own.old.ready }
 {
     log_reached::<F, R>(rt, shared.clients, ticket, &berth);

@@ -1,6 +1,6 @@
 //! A round of the poller.
-ghost use Rattle.std.specs.{Prelude.{◌≡◌, ◌⊎◌, ◌+◌, ◌-◌, ◌<◌, ◌≤◌, ◌↔◌, [], length, Err, IsOk, IfErr, IsSome, IsTrue, MatchResult, OnErr, OnOk, Contains, true, false}, IoError.error_kind, declared.io.ErrorKind.TheVariants.Interrupted};
-ghost use Rattle.rounds.specs.{Acts.{all_reported}, Episodes.{episodes_after, flag_after, starved_after}, Openings.{Between, OnlyTook, AcceptDone, OneAccepted, TriesMade}, Pollers.{HasOpenedAll, max_accepts, spare_room}, Rounds.{AcceptEnded, AllPosted, EndedEarly, IsFull, IsOver, ListensNoMore, ListensToOpen, Looked, LooksForAll, MayAccept, NoSlot, NoneToAccept, NoRound, OnlyAnswered, OnlyListens, RoundEnded, RoundInOrder, RoundKeeps, RoundRefused, WaitedAsMay, WaitsAsMay}};
+ghost use Rattle.std.specs.{Prelude.{◌≡◌, ◌⊎◌, ◌+◌, ◌-◌, ◌<◌, ◌≤◌, ◌↔◌, List, [], length, Err, IsOk, IfErr, IsSome, IsTrue, MatchResult, OnErr, OnOk, Contains, true, false}, IoError.error_kind, declared.io.ErrorKind.TheVariants.Interrupted};
+ghost use Rattle.rounds.specs.{Acts.{SeatAct, all_reported}, Episodes.{episodes_after, flag_after, starved_after}, Openings.{Between, Connected, OnlyTook, TriesMade}, Pollers.{HasOpenedAll, max_accepts, spare_room}, Rounds.{AcceptEnded, AllPosted, EndedEarly, IsFull, IsOver, ListensNoMore, ListensToOpen, Looked, LooksForAll, MayAccept, NoSlot, NoneToAccept, NoRound, OnlyAnswered, OnlyListens, RoundEnded, RoundInOrder, RoundKeeps, RoundRefused, WaitedAsMay, WaitsAsMay}};
 ghost use Rattle.common.specs.{Hands.{HasRoom, ticket_room}, Posts.IsWorn, Told.{unaccepted_of, Waited}};
 
 use crate::delivering::{deliver, refuse_worn};
@@ -61,17 +61,19 @@ pub fn poller_round<F: Front, A: Moves<F>, C: Clock, R: Wait + Log>(
     timing: &Timing<'_, C>,
 ) -> Result<(), ServerFault>
     requires between { Between shared.now.claims own.old poller.old }
-    ensures between { Between shared.now.claims own.new poller.new }
-    ensures early { EndedEarly shared.now.claims.words own.old → IsOk result × NoRound poller.old poller.new own.old own.new }
-    ensures waits { EndedEarly shared.now.claims.words own.old ⊎ WaitedAsMay timing.now.limit poller.old poller.new own.old own.new }
     ensures made { RoundInOrder A.moved A.named A.registered A.made F.accepted F.may_tell poller.old poller.new
         own.old own.new acts.old acts.new }
-    ensures none { EndedEarly shared.now.claims.words own.old ⊎ (result ≡ Err ServerFault.Poll) → acts.new ≡ acts.old }
+    ensures keeps { RoundKeeps timing.now.limit poller.old poller.new own.old own.new }
+    ensures waits { EndedEarly shared.now.claims.words own.old ⊎ WaitedAsMay timing.now.limit poller.old poller.new own.old own.new }
     ensures ended { EndedEarly shared.now.claims.words own.old ⊎ ((result ≡ Err ServerFault.Poll)
         ⊎ (((result ≡ Err ServerFault.Worn) ↔ IsWorn own.new.seat)
         × RoundEnded (C.tells timing.now.clock.now) F.gave_none timing.now.limit poller.old poller.new own.new)) }
-    ensures keeps { RoundKeeps timing.now.limit poller.old poller.new own.old own.new }
+    ensures early { EndedEarly shared.now.claims.words own.old → IsOk result × NoRound poller.old poller.new own.old own.new }
     ensures refused { IfErr result (λ fault. RoundRefused fault poller.old poller.new own.old own.new) }
+    ensures none { EndedEarly shared.now.claims.words own.old ⊎ (result ≡ Err ServerFault.Poll) → acts.new ≡ acts.old }
+
+    // What follows from `made`, so that the next round may begin:
+    ensures between { Between shared.now.claims own.new poller.new }
 {
     if !has_room(&shared.claims, &own.hand) {
         poller.clear_batch();
@@ -257,8 +259,9 @@ fn accept<F: Front, A: Moves<F>, R: Wait + Log>(
     requires between { Between shared.now.claims own.old poller.old }
     requires room { max_accepts ≤ ticket_room own.old.hand }
     ensures between { Between shared.now.claims own.new poller.new }
-    ensures done { AcceptDone (TriesMade A.moved A.named A.registered A.made F.accepted F.may_tell poller.old acts.old acts.new)
-        poller.old poller.new own.old own.new }
+    ensures done { (tries : List SeatAct)
+        × TriesMade A.moved A.named A.registered A.made F.accepted F.may_tell poller.old acts.old acts.new tries
+        × Connected tries poller.old poller.new own.old own.new }
     ensures ended { AcceptEnded poller.new own.new }
     ensures answered { OnlyAnswered F.gave_none poller.old poller.new }
     ensures still { IsWorn own.old.seat → own.new.seat ≡ own.old.seat }
@@ -308,8 +311,9 @@ fn accept_next<F: Front, A: Moves<F>, R: Wait + Log>(
     requires room { 1 ≤ ticket_room own.old.hand }
     requires may { MayAccept poller.old own.old }
     ensures between { Between shared.now.claims own.new poller.new }
-    ensures done { OneAccepted (TriesMade A.moved A.named A.registered A.made F.accepted F.may_tell poller.old acts.old acts.new)
-        poller.old poller.new own.old own.new }
+    ensures done { (tries : List SeatAct)
+        × TriesMade A.moved A.named A.registered A.made F.accepted F.may_tell poller.old acts.old acts.new tries
+        × Connected tries poller.old poller.new own.old own.new × (length tries ≤ 1) }
     ensures still { IsWorn own.old.seat → own.new.seat ≡ own.old.seat }
     ensures tries { result ≡ true → poller.new.tries ≡ poller.old.tries - 1 }
     ensures ended { result ≡ false → AcceptEnded poller.new own.new }

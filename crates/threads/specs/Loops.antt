@@ -161,9 +161,10 @@ pub record Took (ticket : Ticket) (old new : Own) : Type 0 where
   pub hand : new.hand ≡ old.hand
 
 -- this step was made this many times, one after the other, and nothing else
-abbrev pub Repeated : (PollerState → PollerState → Own → Own → Type 0) → ℕ → PollerState → PollerState → Own → Own → Type 0
-Repeated step zero p q a b = (q ≡ p) × (b ≡ a)
-Repeated step (suc n) p q a b = (r : PollerState) × (c : Own) × Repeated step n p r a c × step r q c b
+module _ (step : PollerState → PollerState → Own → Own → Type 0) where
+  abbrev pub Repeated : ℕ → PollerState → PollerState → Own → Own → Type 0
+  Repeated zero p q a b = (q ≡ p) × (b ≡ a)
+  Repeated (suc n) p q a b = (r : PollerState) × (c : Own) × Repeated n p r a c × step r q c b
 
 -- the oldest ticket in hand had its turn, with this answer
 pub record OldestTurn (answer : Result Worked ServerFault) (a b : Own) : Type 0 where
@@ -206,13 +207,21 @@ LastTurn mark (FaultFound found) a b = (found ≡ mark) × (b ≡ a)
 LastTurn mark (Met fault) a b = OldestTurn (Err fault) a b × OnlyWorn fault b.seat
 LastTurn mark why a b = ⊥
 
--- after a round fewer than 32 of the tickets that stayed were run, without a fault, before the thread ended
-pub record TurnsCut (mark : ℕ) (why : Why) (p q : PollerState) (a b : Own) : Type 0 where
-  pub count : ℕ
-  pub between : Own
-  pub made : SharedAndRan count p q a between
-  pub few : count < own_turns
-  pub last : LastTurn mark why between b
+-- how a poller's thread ends, for this reason; this mark shows a fault
+module _ (mark : ℕ) (why : Why) where
+  -- after a round fewer than 32 of the tickets that stayed were run, without a fault, before the thread ended
+  pub record TurnsCut (p q : PollerState) (a b : Own) : Type 0 where
+    pub count : ℕ
+    pub between : Own
+    pub made : SharedAndRan count p q a between
+    pub few : count < own_turns
+    pub last : LastTurn mark why between b
+
+  -- the last step was not begun
+  pub record NotBegun (p q : PollerState) (a b : Own) : Type 0 where
+    pub reason : (why ≡ FaultFound mark) ⊎ ((why ≡ PollerOver) × (p.over ≡ true))
+    pub poller : q ≡ p
+    pub own : b ≡ a
 
 -- A look at the flag that stops openings found this; `said` is what is known of the look. If the flag was set, the
 -- poller may open no more from now on. Else the poller is as it was
@@ -221,12 +230,6 @@ pub record StopAsked (said : Bool → Type 0) (old new : PollerState) : Type 0 w
   pub looked : said found
   pub stopped : found ≡ true → ((new ≡ old) × HasOpenedAll old) ⊎ (new ≡ record old { most = 0 })
   pub goes_on : found ≡ false → new ≡ old
-
--- the last step was not begun
-pub record NotBegun (mark : ℕ) (why : Why) (p q : PollerState) (a b : Own) : Type 0 where
-  pub reason : (why ≡ FaultFound mark) ⊎ ((why ≡ PollerOver) × (p.over ≡ true))
-  pub poller : q ≡ p
-  pub own : b ≡ a
 
 -- What is known of the thread's looks: at the flag what each was `said` to find, at the clock which seconds it `tells`, and of
 -- accept(2) why it `gave_none`. And the idle limit
@@ -263,18 +266,18 @@ module _ (said : Bool → Type 0) (tells : ℕ → Type 0) (gave_none : Unaccept
     pub made : RoundMade p q a b
     pub refused : RoundRefused fault made.begun q a b
 
-  -- the last step of a poller's thread, by why it ended
-  abbrev pub StepCut : ℕ → Why → PollerState → PollerState → Own → Own → Type 0
-  StepCut mark why p q a b = NotBegun mark why p q a b ⊎ (RoundCut why p q a b ⊎ RoundAnd (TurnsCut mark why) p q a b)
+  module _ (mark : ℕ) (why : Why) where
+    -- the last step of a poller's thread, by why it ended
+    abbrev pub StepCut : PollerState → PollerState → Own → Own → Type 0
+    StepCut p q a b = NotBegun mark why p q a b ⊎ (RoundCut why p q a b ⊎ RoundAnd (TurnsCut mark why) p q a b)
 
-  -- any number of steps, and then the last one
-  abbrev pub LoopMade : ℕ → Why → PollerState → PollerState → Own → Own → Type 0
-  LoopMade mark why p q a b =
-      (steps : ℕ) × (r : PollerState) × (c : Own) × Repeated StepMade steps p r a c × StepCut mark why r q c b
+    -- any number of steps, and then the last one
+    abbrev pub LoopMade : PollerState → PollerState → Own → Own → Type 0
+    LoopMade p q a b = (steps : ℕ) × (r : PollerState) × (c : Own) × Repeated StepMade steps p r a c × StepCut r q c b
 
-  -- all of a thread's steps, from the second that its clock showed as it began: its sweeps are counted from then
-  abbrev pub RunMade : ℕ → Why → PollerState → Own → Own → Type 0
-  RunMade mark why p a b = (second : ℕ) × (q : PollerState) × tells second × LoopMade mark why (record p { swept = second }) q a b
+    -- all of a thread's steps, from the second that its clock showed as it began: its sweeps are counted from then
+    abbrev pub RunMade : PollerState → Own → Own → Type 0
+    RunMade p a b = (second : ℕ) × (q : PollerState) × tells second × LoopMade (record p { swept = second }) q a b
 
 -- of a worker's ends of the pollers' queues, in order, only the end of this poller's may have changed
 abbrev pub OthersKept : ℕ → List (EndState ℕ) → List (EndState ℕ) → Type 0

@@ -7,7 +7,7 @@ use Rattle.common.{proofs.Holding.holds_from, specs.{declared.{places.Berth.Bert
 use Rattle.ready.specs.{declared.ticket.Ticket.Ticket, Steps.QueueEnd}
 use Rattle.engine.specs.Turns.{outcome_of}
 use Rattle.sizes.specs.declared.faults.ServerFault.{ServerFault, TheVariants.Worn}
-use Rattle.turns.specs.{declared.worker.Worked.Worked, Turns.{noted_by, ActsLeft, Handled, Handles, IsLeft, StaysAs, Playing, RunRest, WasHeld, TurnInOrder, program, AtWork, TicketsKept, SlotGiven, SlotsKept, TurnDone, TurnRest, TurnMade, ticket_of}, Shares.{AreShared, IsLight, OneShared, Passed, Stays}}
+use Rattle.turns.specs.{declared.worker.Worked.Worked, Turns.{noted_by, ActsLeft, Handled, Handles, LeavesAs, Playing, RunRest, WasHeld, TurnInOrder, program, AtWork, TicketsKept, SlotGiven, SlotsKept, TurnDone, TurnRest, TurnMade, ticket_of}, Shares.{AreShared, IsLight, OneShared, Passed, Stays}}
 use Rattle.claims.specs.declared.answers.Posted.TheVariants as posted
 use Rattle.engine.specs.declared.outcome.Turn.TheVariants as turn
 use Rattle.turns.specs.declared.worker.Worked.TheVariants as worked
@@ -55,17 +55,9 @@ still_at_work work holder only hand = record { same = only.table ∙ work.same; 
 
 -- What a turn did with the ticket's own connection, which is left as the answer says
 
-abbrev IsPlayed : Answer → Type 0
-IsPlayed (Ok worked.Busy) = ⊥
-IsPlayed (Ok worked.Gone) = ⊥
-IsPlayed r = Unit {0}
-
-abbrev pub EndsAs : {C T : Type 0} → Answer → Handled C T → Berth C T → Berth C T → Type 0
-EndsAs r h now new = IsPlayed r × StaysAs r h now new × IsLeft r new.pair
-
-pub due_as : {C T : Type 0} (o : Option Worked) (h : Handled C T) (b : Berth C T) → IfSome o (λ w. w ≡ worked.Again) → outcome_of b.pair ≡ turn.Again → EndsAs (ok_or o Worn) h b b
-due_as (Some w) h b is due = rw is (tt, refl, due)
-due_as None h b is due = (tt, refl, due)
+pub due_as : {C T : Type 0} (o : Option Worked) (h : Handled C T) (b : Berth C T) → IfSome o (λ w. w ≡ worked.Again) → outcome_of b.pair ≡ turn.Again → LeavesAs (ok_or o Worn) h b b
+due_as (Some w) h b is due = rw is (refl, due)
+due_as None h b is due = (refl, due)
 
 abbrev pub own_of : {C T : Type 0} → ℕ → Berth C T → Berth C T → Berth C T → Option (Berth C T × Berth C T) → Handled C T
 own_of notes old now new settled =
@@ -75,9 +67,9 @@ own_of notes old now new settled =
 pub played_then : {S C T : Type 0} {acts : Handled C T → Made S} {plays : Playing C T} {t : Ticket} {a b c : Own} {from to : S} (mid then : S)
     (r : Answer) (notes : ℕ) (old now new : Berth C T) (settled : Option (Berth C T × Berth C T)) → let h = own_of notes old now new settled in
     ticket_of old.pair ≡ t → acts h act.TakeNotes t.slot from mid → acts h act.Play t.slot mid then → Adds t.slot (Take notes ∷ []) a.seat b.seat → Still a b
-    → ((h : Handled C T) → h.settled ≡ settled → h.left ≡ Some new → TurnRest (acts h) t r true 2 4 b c then to) → plays notes old now → EndsAs r h now new → RunRest acts plays t old r a c from to
-played_then mid then (Ok worked.Busy) notes old now new settled own taken called adds still rest ran ends = absurd ends.0
-played_then mid then (Ok worked.Gone) notes old now new settled own taken called adds still rest ran ends = absurd ends.0
+    → ((h : Handled C T) → h.settled ≡ settled → h.left ≡ Some new → TurnRest (acts h) t r true 2 4 b c then to) → plays notes old now → LeavesAs r h now new → RunRest acts plays t old r a c from to
+played_then mid then (Ok worked.Busy) notes old now new settled own taken called adds still rest ran ends = absurd ends
+played_then mid then (Ok worked.Gone) notes old now new settled own taken called adds still rest ran ends = absurd ends
 played_then {t = t} {a = a} {b = b} {c = c} mid then r notes old now new settled own taken called adds still ends_then ran ends =
     let rest = ends_then (own_of notes old now new settled) refl refl in
     record {
@@ -91,7 +83,7 @@ played_then {t = t} {a = a} {b = b} {c = c} mid then r notes old now new settled
         done = done_after (Take notes ∷ []) adds refl still (slots_as t a b c still r) rest.done;
         acts = (mid, taken, (then, called, rest.acts));
       };
-      handles = (old, now, new, refl, refl, refl, own, ran, ends.1, ends.2);
+      handles = (old, now, new, refl, refl, refl, own, ran, ends);
     }
 
 module _ {S C T : Type 0} (acts : Handled C T → Made S) (plays : Playing C T) {t : Ticket} {words found : ℕ} {a c : Own} {s : SeatState} (from to : S)
@@ -128,7 +120,7 @@ module _ {S C T : Type 0} (acts : Handled C T → Made S) (plays : Playing C T) 
       told : (r : Answer) → Handles Plays ran.rest.noted t r ran.did → Handles plays ran.rest.noted t r ran.did
       told (Ok worked.Busy) handles = tt
       told (Ok worked.Gone) handles = handles
-      told _ (old, now, new, found, had, left, same, played, stays, is) = (old, now, new, found, had, left, same, more _ old now played, stays, is)
+      told _ (old, now, new, found, had, left, same, played, leaves) = (old, now, new, found, had, left, same, more _ old now played, leaves)
 
 -- what is known of a slot that is given may be said in other words
 pub gives_as : {S : Type 0} (made more : Made S) (slot : ℕ) (given : Bool) (from to : S) → ((x y : S) → made act.Give slot x y → more act.Give slot x y)

@@ -37,10 +37,6 @@ acts_of (Ok worked.Again) generation other woke = again_turn true
 acts_of (Ok worked.Ended) generation other woke = ended_turn (nat_lt generation last_generation)
 acts_of (Err fault) generation other woke = again_turn woke
 
--- the acts of a turn after its first n were made
-abbrev pub ActsLeft : {S : Type 0} → Made S → Ticket → Result Worked ServerFault → ℕ → Bool → Bool → S → S → Type 0
-ActsLeft made ticket result n other woke from to = AreMade made ticket.slot (drop n (acts_of result ticket.generation other woke)) from to
-
 -- the thread holds this slot of these claim words and no other, and its hand has room
 pub record AtWork (claims : TableId) (slot : ℕ) (own : Own) : Type 0 where
   pub same : own.seat.table ≡ claims
@@ -77,22 +73,27 @@ pub record TurnDone (ticket : Ticket) (exchanges : List Exchange) (result : Resu
   pub slots : SlotsKept ticket result old new
   pub took : TookNothing old new
 
--- The rest of a turn, after `exchanged` of its exchanges and `acted` of its acts
-pub record TurnRest {S : Type 0} (made : Made S) (ticket : Ticket) (result : Result Worked ServerFault)
-    (other : Bool) (exchanged acted : ℕ) (old new : Own) (from to : S) : Type 0 where
-  pub noted : ℕ
-  pub woke : Bool
-  pub held : WasHeld result
-  pub refused : IfErr result (λ fault. OnlyWorn fault new.seat)
-  pub done : TurnDone ticket (drop exchanged (program result 0 noted woke)) result old new
-  pub acts : ActsLeft made ticket result acted other woke from to
+module _ {S : Type 0} (made : Made S) (ticket : Ticket) where
+  -- a release alone, which answers Quiet only if the seat knew of no note
+  pub record LeftSlot (old new : Own) (from to : S) : Type 0 where
+    pub woke : Bool
+    pub quiet : woke ≡ false → (account_at old.seat ticket.slot).known ≡ 0
+    pub done : TurnDone ticket (Release woke ∷ []) (Ok worked.Quiet) old new
+    pub acts : AreMade made ticket.slot (leaving woke) from to
 
--- a release alone, which answers Quiet only if the seat knew of no note
-pub record LeftSlot {S : Type 0} (made : Made S) (ticket : Ticket) (old new : Own) (from to : S) : Type 0 where
-  pub woke : Bool
-  pub quiet : woke ≡ false → (account_at old.seat ticket.slot).known ≡ 0
-  pub done : TurnDone ticket (Release woke ∷ []) (Ok worked.Quiet) old new
-  pub acts : AreMade made ticket.slot (leaving woke) from to
+  module _ (result : Result Worked ServerFault) where
+    -- the acts of a turn after its first n were made
+    abbrev pub ActsLeft : ℕ → Bool → Bool → S → S → Type 0
+    ActsLeft n other woke from to = AreMade made ticket.slot (drop n (acts_of result ticket.generation other woke)) from to
+
+    -- The rest of a turn, after `exchanged` of its exchanges and `acted` of its acts
+    pub record TurnRest (other : Bool) (exchanged acted : ℕ) (old new : Own) (from to : S) : Type 0 where
+      pub noted : ℕ
+      pub woke : Bool
+      pub held : WasHeld result
+      pub refused : IfErr result (λ fault. OnlyWorn fault new.seat)
+      pub done : TurnDone ticket (drop exchanged (program result 0 noted woke)) result old new
+      pub acts : ActsLeft acted other woke from to
 
 -- the exchanges of a turn with a ticket of this slot: if the claim words lack the slot, none, and the answer is Gone
 pub record IsTurnOf (words slot : ℕ) (result : Result Worked ServerFault) (exchanges : List Exchange) : Type 0 where
@@ -117,15 +118,14 @@ noted_by notes pair = if nat_lt 0 notes then noted pair else pair
 abbrev pub WireServes : Type 0 → Type 1
 WireServes S = ℕ → S → S → Side → PairState → List AnswerValue → Type 0
 
--- a connection had one turn on its two wires, after this many notes were taken: with this budget, at this second, and with this
--- idle limit
-abbrev pub Plays : {C T : Type 0} → WireServes C → WireServes T → ℕ → ℕ → ℕ → ℕ → Berth C T → Berth C T → Type 0
-Plays client target budget second limit notes old new = IsTurn budget second limit (noted_by notes old.pair) new.pair
-    (client second old.client new.client) (target second old.target new.target)
-
 -- how a connection is played after this many notes were taken: what it was, and what it was after its calls
 abbrev pub Playing : Type 0 → Type 0 → Type 1
 Playing C T = ℕ → Berth C T → Berth C T → Type 0
+
+-- a connection had one turn on its two wires: with this budget, at this second, and with this idle limit
+abbrev pub Plays : {C T : Type 0} → WireServes C → WireServes T → ℕ → ℕ → ℕ → Playing C T
+Plays client target budget second limit notes old new = IsTurn budget second limit (noted_by notes old.pair) new.pair
+    (client second old.client new.client) (target second old.target new.target)
 
 -- How a connection is played: at a second that the clock may show, with no more calls than the budget, and with this idle limit
 abbrev pub PlaysAt : {C T : Type 0} → WireServes C → WireServes T → (ℕ → Type 0) → ℕ → ℕ → Playing C T
@@ -150,47 +150,37 @@ Handling found played moved made h PutIn slot from to = made PutIn slot from to 
 Handling found played moved made h Close slot from to = made Close slot from to × IfSome h.left (λ berth. moved berth to)
 Handling found played moved made h act slot from to = made act slot from to
 
--- what it is in the end, by what it was after its calls: the same, but that after Quiet its sockets sent what they held back
-abbrev pub StaysAs : {C T : Type 0} → Result Worked ServerFault → Handled C T → Berth C T → Berth C T → Type 0
-StaysAs (Ok worked.Quiet) h played new = (h.settled ≡ Some (played, new)) × (new.pair ≡ played.pair)
-StaysAs result h played new = new ≡ played
-
--- what is left of a connection after a turn with this answer
-abbrev pub IsLeft : Result Worked ServerFault → PairState → Type 0
-IsLeft (Ok worked.Ended) pair = (outcome_of pair ≡ turn.Done) ⊎ (outcome_of pair ≡ turn.Failed)
-IsLeft (Ok worked.Quiet) pair = outcome_of pair ≡ turn.Quiet
-IsLeft result pair = outcome_of pair ≡ turn.Again
+-- What a turn with this answer leaves of a connection, by what it was after its calls: the same, but after Quiet its sockets
+-- sent what they held back. A refused one, whose seat is worn, leaves it as Again does. Busy and Gone play none
+abbrev pub LeavesAs : {C T : Type 0} → Result Worked ServerFault → Handled C T → Berth C T → Berth C T → Type 0
+LeavesAs (Ok worked.Busy) h played new = ⊥
+LeavesAs (Ok worked.Gone) h played new = ⊥
+LeavesAs (Ok worked.Quiet) h played new =
+    (h.settled ≡ Some (played, new)) × (new.pair ≡ played.pair) × (outcome_of new.pair ≡ turn.Quiet)
+LeavesAs (Ok worked.Again) h played new = (new ≡ played) × (outcome_of new.pair ≡ turn.Again)
+LeavesAs (Ok worked.Ended) h played new =
+    (new ≡ played) × ((outcome_of new.pair ≡ turn.Done) ⊎ (outcome_of new.pair ≡ turn.Failed))
+LeavesAs (Err fault) h played new = (new ≡ played) × (outcome_of new.pair ≡ turn.Again)
 
 -- the ticket of a connection
 abbrev pub ticket_of : PairState → Ticket
 ticket_of pair = record { slot = pair.slot; generation = pair.generation }
 
--- A turn that is Gone found no connection that has the ticket, and put back what it found. One that got its slot and is
--- not Gone found the ticket's own, played it after it took these notes, and put it back or closed it. One that is refused, since
--- its seat is worn, put it back, as one that answers Again. A busy turn does not look
+-- it found the ticket's own connection, played it after it took these notes, and put it back or closed it
+abbrev pub HandlesOwn : {C T : Type 0} → Playing C T → ℕ → Ticket → Result Worked ServerFault → Handled C T → Type 0
+HandlesOwn plays notes ticket result h = (old : Berth _ _) × (played : Berth _ _) × (new : Berth _ _) × (h.found ≡ Some old)
+    × (h.played ≡ Some (record old { pair = noted_by notes old.pair }, played)) × (h.left ≡ Some new)
+    × (ticket_of old.pair ≡ ticket) × plays notes old played × LeavesAs result h played new
+
+-- What a turn did with its connection, by its answer. A busy turn does not look. One that is Gone found no connection that has
+-- the ticket, and put back what it found
 abbrev pub Handles : {C T : Type 0} → Playing C T → ℕ → Ticket → Result Worked ServerFault → Handled C T → Type 0
 Handles plays notes ticket (Ok worked.Busy) h = Unit {0}
 Handles plays notes ticket (Ok worked.Gone) h = IfSome h.found (λ berth. ticket_of berth.pair ≢ ticket) × (h.left ≡ h.found)
-Handles plays notes ticket result h = (old : Berth _ _) × (played : Berth _ _) × (new : Berth _ _) × (h.found ≡ Some old)
-    × (h.played ≡ Some (record old { pair = noted_by notes old.pair }, played)) × (h.left ≡ Some new)
-    × (ticket_of old.pair ≡ ticket) × plays notes old played × StaysAs result h played new × IsLeft result new.pair
-
--- the rest of a turn that found this connection of its own, once it was taken out, and what the turn did with it
-pub record RunRest {S C T : Type 0} (made : Handled C T → Made S) (plays : Playing C T) (ticket : Ticket) (connection : Berth C T)
-    (result : Result Worked ServerFault) (old new : Own) (from to : S) : Type 0 where
-  pub did : Handled C T
-  pub found : did.found ≡ Some connection
-  pub rest : TurnRest (made did) ticket result (is_some did.found) 1 2 old new from to
-  pub handles : Handles plays rest.noted ticket result did
-
--- `TurnMade`, with the turn's acts, in order, and what it did with the connection. If the claim words lack the slot, none is made
-abbrev pub TurnInOrder : {S C T : Type 0} → (Handled C T → Made S) → Playing C T → ℕ → Ticket
-    → Result Worked ServerFault → Own → Own → S → S → Type 0
-TurnInOrder made plays words ticket result old new from to =
-    (turn : TurnMade words ticket result old new)
-    × (ticket.slot < words → (h : Handled _ _) × Handles plays turn.are.noted ticket result h
-    × ActsLeft (made h) ticket result 0 (is_some h.found) turn.are.woke from to)
-    × (words ≤ ticket.slot → to ≡ from)
+Handles plays notes ticket (Ok worked.Quiet) h = HandlesOwn plays notes ticket (Ok worked.Quiet) h
+Handles plays notes ticket (Ok worked.Again) h = HandlesOwn plays notes ticket (Ok worked.Again) h
+Handles plays notes ticket (Ok worked.Ended) h = HandlesOwn plays notes ticket (Ok worked.Ended) h
+Handles plays notes ticket (Err fault) h = HandlesOwn plays notes ticket (Err fault) h
 
 -- what was in hand was put, until nothing was left or the queue refused it, as it shows
 pub record PutFirst (put : HandPut) (old new : Own) : Type 0 where
@@ -201,27 +191,44 @@ pub record PutFirst (put : HandPut) (old new : Own) : Type 0 where
   pub all_tickets : OnOk put.tickets (new.hand.tickets ≡ [])
   pub all_slots : OnOk put.slots (new.hand.slots ≡ [])
 
--- A worker's turn. What was in hand was put before anything else. Then the turn made its exchanges and its acts in order, by
--- its answer, and played the connection that it found
-pub record WorkerTurn {S C T : Type 0} (made : Handled C T → Made S) (plays : Playing C T) (words : ℕ) (ticket : Ticket)
-    (first : HandPut) (result : Result Worked ServerFault) (old new : Own) (from to : S) : Type 0 where
-  pub begun : Own
-  pub put : PutFirst first old begun
-  pub turn : TurnInOrder made plays words ticket result begun new from to
+-- What is known of a turn's acts, which handle this much, and how it plays a connection
+module _ {S C T : Type 0} (made : Handled C T → Made S) (plays : Playing C T) where
+  -- the rest of a turn that found this connection of its own, once it was taken out, and what the turn did with it
+  pub record RunRest (ticket : Ticket) (connection : Berth C T) (result : Result Worked ServerFault) (old new : Own)
+      (from to : S) : Type 0 where
+    pub did : Handled C T
+    pub found : did.found ≡ Some connection
+    pub rest : TurnRest (made did) ticket result (is_some did.found) 1 2 old new from to
+    pub handles : Handles plays rest.noted ticket result did
 
--- the oldest ticket in hand was taken out, and had its turn
-pub record OldestRan {S C T : Type 0} (made : Handled C T → Made S) (plays : Playing C T) (words : ℕ)
-    (result : Result Worked ServerFault) (old new : Own) (from to : S) : Type 0 where
-  pub ticket : Ticket
-  pub oldest : slice_get old.hand.tickets 0 ≡ Some ticket
-  pub turn : TurnInOrder made plays words ticket result (without_first old) new from to
+  module _ (words : ℕ) where
+    -- `TurnMade`, with the turn's acts, in order, and what it did with the connection; no act if the claim words lack the slot
+    abbrev pub TurnInOrder : Ticket → Result Worked ServerFault → Own → Own → S → S → Type 0
+    TurnInOrder ticket result old new from to =
+        (turn : TurnMade words ticket result old new)
+        × (ticket.slot < words → (h : Handled C T) × Handles plays turn.are.noted ticket result h
+        × ActsLeft (made h) ticket result 0 (is_some h.found) turn.are.woke from to)
+        × (words ≤ ticket.slot → to ≡ from)
 
--- a poller's own turn. After None nothing has changed
-abbrev pub OwnTurn : {S C T : Type 0} → (Handled C T → Made S) → Playing C T → ℕ
-    → Result (Option Worked) ServerFault → Own → Own → S → S → Type 0
-OwnTurn made plays words (Ok None) old new from to = (new ≡ old) × (to ≡ from)
-OwnTurn made plays words (Ok (Some worked)) old new from to = OldestRan made plays words (Ok worked) old new from to
-OwnTurn made plays words (Err fault) old new from to = OldestRan made plays words (Err fault) old new from to
+    -- A worker's turn. What was in hand was put before anything else. Then the turn made its exchanges and its acts in order,
+    -- by its answer, and played the connection that it found
+    pub record WorkerTurn (ticket : Ticket) (first : HandPut) (result : Result Worked ServerFault) (old new : Own) (from to : S)
+        : Type 0 where
+      pub begun : Own
+      pub put : PutFirst first old begun
+      pub turn : TurnInOrder ticket result begun new from to
+
+    -- the oldest ticket in hand was taken out, and had its turn
+    pub record OldestRan (result : Result Worked ServerFault) (old new : Own) (from to : S) : Type 0 where
+      pub ticket : Ticket
+      pub oldest : slice_get old.hand.tickets 0 ≡ Some ticket
+      pub turn : TurnInOrder ticket result (without_first old) new from to
+
+    -- a poller's own turn. After None nothing has changed
+    abbrev pub OwnTurn : Result (Option Worked) ServerFault → Own → Own → S → S → Type 0
+    OwnTurn (Ok None) old new from to = (new ≡ old) × (to ≡ from)
+    OwnTurn (Ok (Some worked)) old new from to = OldestRan (Ok worked) old new from to
+    OwnTurn (Err fault) old new from to = OldestRan (Err fault) old new from to
 
 -- the heavy marks after an own turn: a slot whose connection spent the budget has all 16
 abbrev pub marks_after : Option Ticket → Result (Option Worked) ServerFault → List ℕ → List ℕ

@@ -24,12 +24,14 @@ pub(crate) fn put_ticket<A: Acts, R: Wait>(
     requires released { HoldsNot own.old.seat ticket.slot }
     requires room { length own.old.hand.tickets < own.old.hand.capacity }
     ensures made { A.made act.PutTicket ticket.slot acts.old acts.new }
-    ensures seat { own.new.seat ≡ own.old.seat }
     ensures passed { Passed result ticket own.old own.new }
+    ensures seat { own.new.seat ≡ own.old.seat }
+    ensures free { own.new.free ≡ own.old.free }
+
+    // What follows from `passed`:
     ensures kept { KeepsTicket ticket own.new.ready.history own.new.hand }
     ensures tickets { Inserted ticket (tickets_out own.old) (tickets_out own.new) }
     ensures took { own.new.ready.history.taken ≡ own.old.ready.history.taken }
-    ensures free { own.new.free ≡ own.old.free }
     ensures slots { own.new.hand.slots ≡ own.old.hand.slots }
 {
     match acts.put_ticket(rt, &mut own.ready, ticket) {

@@ -1,5 +1,5 @@
-use Rattle.std.proofs.Common.{◌∙◌, inr, refl}
-use Rattle.rounds.{specs.Openings.{Dropped, Naming, Spent, Wires}, proofs.Rounds.{between_still, fate_by, no_tries, opened_never, opened_not, placed_there, tried_once}}
+use Rattle.std.proofs.Common.{[], ◌∙◌, arith, inl, inr, refl}
+use Rattle.rounds.{specs.Openings.{Dropped, NotFree, Opened, Spent}, proofs.Rounds.{between_still, no_tries, opened_never, opened_not, placed_there, tried}}
 use Rattle.rounds.proofs.opening.open.Goals as goal
 
 pub returns-in_default : goal.returns-in_default
@@ -8,8 +8,8 @@ returns-in_default g c =
     let lost = c.count_lost.ensures in
     record {
       between = between_still c.requires.between refl (rw lost);
-      counted = rw (none.1, lost) (Spent refl none.2 refl);
-      done = inr (opened_never c.next_names.ensures.left none.1 no_tries none.2 lost);
+      counted = rw (none.1, lost) (Spent, (refl, none.2), tt, refl, λ is. absurd (cc is));
+      done = inr ([], no_tries, opened_never c.next_names.ensures.left none.1 none.2 lost, omega arith);
       ready = refl;
     }
 
@@ -20,9 +20,10 @@ returns-in-Err g c =
     let logged = c.in-Err.ensures.logged in
     record {
       between = between_still c.requires.between refl (rw logged);
-      counted = rw (first, logged) (Dropped c.in-Err.dropped refl (rw c.ticket-ticket.ensures at c.count_dropped.ensures, c.in-Err.ensures.lacked) acts);
-      done = inr (opened_not c.next_names.ensures.left first (record { acts = (c.prepare.new.acts, record { client = c.args.client; given = c.requires.accepted; acts = acts }, refl) })
-          c.in-Err.ensures.failed (rw logged assumption) c.in-Some.ensures.next.own);
+      counted = rw (first, logged)
+          (Dropped c.in-Err.dropped, refl, (rw c.ticket-ticket.ensures at c.count_dropped.ensures, c.in-Err.ensures.lacked), acts, λ is. absurd (cc is));
+      done = inr (tried c.args.client c.requires.accepted acts
+          (opened_not c.next_names.ensures.left first c.in-Err.ensures.failed (rw logged assumption) c.in-Some.ensures.next.own));
       ready = refl;
     }
 
@@ -33,20 +34,20 @@ returns-in-Ok g c =
     let made = c.in-Ok.ensures in
     let (act, (named, _)) = made.acts in
     let hand = made.prepared ∙ c.next_names.ensures.left in
+    let placed = rw (made.same, c.ticket-ticket.ensures) at c.place.ensures.placed in
     record {
       between = c.place.ensures.between;
-      counted = rw first (fate_by (rw (made.same, c.ticket-ticket.ensures, next) at c.place.ensures.counted)
-          (λ opened. (opened.0, (c.in-Ok.berth.value, rw next at made.fresh, (c.prepare.new.acts, (act, (rw next at named, made.wires)), opened.1))))
-          (λ found. (c.prepare.new.acts, rw next at made.acts, found)));
-      done = placed_there hand first (rw (made.same, c.ticket-ticket.ensures) at c.place.ensures.done) (λ tries tried. record {
-        acts = rw tried.once (
-          c.place.new.acts,
-          tried_once (λ client. Naming g.A.Moves.named (Wires (g.A.Moves.registered client)) g.A.Acts.made) _ c.args.acts.now c.prepare.new.acts c.place.new.acts
-              c.requires.accepted (λ acts. (c.in-Ok.berth.value, made.fresh, (c.prepare.new.acts, (act, (named, made.wires)), acts)))
-              (λ acts. (c.prepare.new.acts, made.acts, acts)) tried,
-          refl,
-        );
-      });
+      counted = rw first (elim (rw next at placed) [
+        | inl done ↦ (Opened, done.0, done.1, (c.in-Ok.berth.value, rw next at made.fresh, (c.prepare.new.acts, (act, (rw next at named, made.wires)), done.2)), λ is. absurd (cc is))
+        | inr lost ↦ (NotFree, lost.0, tt, (c.prepare.new.acts, rw next at made.acts, lost.2), λ is. lost.1)
+      ]);
+      done = elim placed [
+        | inl done ↦ elim done.3 [
+          | inl is_worn ↦ inl is_worn
+          | inr once ↦ inr (tried c.args.client c.requires.accepted (c.in-Ok.berth.value, made.fresh, (c.prepare.new.acts, (act, (named, made.wires)), done.2)) (placed_there hand first once.2))
+        ]
+        | inr lost ↦ inr (tried c.args.client c.requires.accepted (c.prepare.new.acts, made.acts, lost.2) (placed_there hand first lost.3))
+      ];
       ready = c.place.ensures.ready;
     }
 

@@ -1,7 +1,7 @@
 use Rattle.std.proofs.{Common.{◌∙◌, ◌∷◌, [], ap, arith, inl, inr, refl}, lemmas.List.length-set}
 use Rattle.claims.{specs.declared.view.Account.Account, proofs.Seats.{account_after, holds_nothing_again}}
-use Rattle.common.{specs.Acts.{AreMade, Adopt, placing}, proofs.Holding.{holds_from}}
-use Rattle.rounds.{specs.{Acts.{SeatAct, opening}, Openings.Putting}, proofs.{Acts.{acts_one, try_held}, Rounds.{counted_one, opened_once, times-append, none_opened}}}
+use Rattle.common.{specs.Acts.{AreMade, placing}, proofs.Holding.{holds_from}}
+use Rattle.rounds.{specs.{Acts.SeatAct, Openings.Putting}, proofs.{Acts.{acts_one, try_held}, Rounds.{counted_one, opened_once, times-append, none_opened}}}
 use Rattle.claims.specs.declared.view.Exchange.TheVariants as exchange
 use Rattle.rounds.proofs.opening.place.Goals as goal
 
@@ -18,9 +18,12 @@ returns-in-Adopted g c =
         idle = c.start.ensures.idle;
         sized = rw (told, counted, length-set) c.requires.between.sized;
       };
-      done = opened_once (λ noted. record { exchanges = opening change.0 noted; once = refl; acts = acts })
-          c.start.ensures.started c.requires.next change.1 c.start.ensures.queues (rw (told, counted));
-      counted = inl (rw (told, counted), ((c.log_open.ensures, c.count_opened.ensures.counted), acts));
+      placed = inl (
+        rw (told, counted),
+        (c.log_open.ensures, c.count_opened.ensures.counted),
+        acts,
+        opened_once c.start.ensures.started c.requires.next change.1 c.start.ensures.queues (rw (told, counted)),
+      );
       ready = c.start.ensures.queues.ready;
     }
 
@@ -28,7 +31,6 @@ pub returns-in-NotFree : goal.returns-in-NotFree
 returns-in-NotFree g c =
     let change = c.in-NotFree.ensures.change in
     let try : SeatAct = record { ticket = c.args.ticket; exchanges = exchange.NotFree ∷ [] } in
-    let found : AreMade g.A.Acts.made c.args.ticket.slot (Adopt ∷ []) c.args.acts.now c.adopt.new.self = (c.adopt.new.self, c.adopt.ensures.made, refl) in
     record {
       between = record {
         same = change.only.table ∙ c.requires.between.same;
@@ -36,16 +38,15 @@ returns-in-NotFree g c =
             (ap (λ (a : Account). a.holds) (account_after _ _ _ _ change) ∙ c.requires.between.idle.nowhere c.args.ticket.slot);
         sized = rw c.count_lost.ensures c.requires.between.sized;
       };
-      done = inr (record {
-        tries = try ∷ [];
-        acts = record { exchanges = exchange.NotFree ∷ []; once = refl; acts = found };
-        did = rw c.count_lost.ensures (none_opened (try ∷ []) (c.args.ticket.slot ∷ []) (c.args.ticket.slot ∷ []) (try_held c.args.ticket) (acts_one try _ _ change)
+      placed = inr (
+        c.count_lost.ensures,
+        change,
+        (c.adopt.new.self, c.adopt.ensures.made, refl),
+        rw c.count_lost.ensures (none_opened (try ∷ []) (c.args.ticket.slot ∷ []) (c.args.ticket.slot ∷ []) (try_held c.args.ticket) (acts_one try _ _ change)
             (c.args.poller.now.table, record { own = c.requires.next.own; next = c.requires.next.generation; entered = refl }, refl) refl refl refl
             (counted_one _ c.args.poller.now.lost _ refl) (inr ([], refl, refl)) refl refl refl refl (omega arith)
-            (λ s. omega (arith, times-append s (c.args.ticket.slot ∷ []) c.args.own.now.hand.slots)));
-        room = omega arith;
-      });
-      counted = inr (c.count_lost.ensures, change, found);
+            (λ s. omega (arith, times-append s (c.args.ticket.slot ∷ []) c.args.own.now.hand.slots)) (omega arith)),
+      );
       ready = refl;
     }
 

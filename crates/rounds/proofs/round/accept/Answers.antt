@@ -1,5 +1,5 @@
 use Rattle.std.proofs.Common.{◌∙◌, inl, inr, refl, sym, arith}
-use Rattle.rounds.proofs.Rounds.{accept_and_took, accept_both, accept_took, done_of, no_tries, answered_both, answered_none, between_still, by_err, room_same}
+use Rattle.rounds.proofs.Rounds.{accept_and_took, accept_both, accept_took, done_of, answered_both, answered_none, between_still, by_err, room_same}
 use Rattle.rounds.proofs.round.accept.Goals as goal
 
 pub loop-try-init : goal.loop-try-init
@@ -9,7 +9,7 @@ loop-try-init g c =
       between = between_still c.requires.between full.took.seat (rw (c.reset_tries.ensures, full.poller));
       room = omega (arith, room_same full.took);
       tries = rw c.reset_tries.ensures;
-      done = done_of (accept_took no_tries (rw (c.reset_tries.ensures, full.poller) assumption) full.took);
+      done = done_of (accept_took (rw (c.reset_tries.ensures, full.poller) assumption) full.took);
       still = λ _. full.took.seat;
       answered = answered_none (rw (c.reset_tries.ensures, full.poller)) (inl (rw (c.reset_tries.ensures, full.poller)));
     }
@@ -52,7 +52,7 @@ loop-try-preserved g c =
     let tried = c.accept_next.ensures in
     record {
       between = tried.between;
-      room = omega (arith, room_same took, tried.done.room, before.room);
+      room = omega (arith, room_same took, tried.done.2.room, tried.done.3, before.room);
       tries = omega (arith, tried.tries c.if-not-accept_next.false, before.tries, c.loop-try-test.true);
       done = accept_both (accept_and_took before.done took) tried.done;
       still = λ is. tried.still (rw (took.seat, before.still is) is) ∙ took.seat ∙ before.still is;

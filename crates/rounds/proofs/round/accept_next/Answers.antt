@@ -1,15 +1,15 @@
 use Rattle.std.proofs.{Common.{inl, inr, refl, sym}, lemmas.Bool.false≢true}
-use Rattle.rounds.proofs.Rounds.{accept_none, no_tries, answered_by, answered_none, fate_only, not_worn, once_after, unless}
+use Rattle.rounds.proofs.Rounds.{accept_none, answered_by, answered_none, fate_only, not_worn, once_after, unless}
 use Rattle.rounds.proofs.round.accept_next.Goals as goal
 
 pub returns-then-is_worn-clause-done : goal.returns-then-is_worn-clause-done
-returns-then-is_worn-clause-done g c = accept_none no_tries assumption
+returns-then-is_worn-clause-done g c = accept_none assumption
 
 pub returns-then-leaves-clause-done : goal.returns-then-leaves-clause-done
-returns-then-leaves-clause-done g c = accept_none no_tries (rw c.leaves.ensures assumption)
+returns-then-leaves-clause-done g c = accept_none (rw c.leaves.ensures assumption)
 
 pub returns-in-Err-clause-done : goal.returns-in-Err-clause-done
-returns-in-Err-clause-done g c = accept_none no_tries (rw (c.not_accepted.ensures.flag, c.in-Err.ensures.refused, c.leaves.ensures) assumption)
+returns-in-Err-clause-done g c = accept_none (rw (c.not_accepted.ensures.flag, c.in-Err.ensures.refused, c.leaves.ensures) assumption)
 
 pub returns-in-Ok-clause-done : goal.returns-in-Ok-clause-done
 returns-in-Ok-clause-done g c =
@@ -31,11 +31,12 @@ returns-in-Err-clause-answered g c =
 
 pub returns-in-Ok-clause-answered : goal.returns-in-Ok-clause-answered
 returns-in-Ok-clause-answered g c =
-    let only = fate_only _ _ _ _ _ _ _ _ c.requires.may.2 c.open.ensures.counted in
+    let only = fate_only _ c.accept.new.self c.open.new.poller _ c.requires.may.2 c.open.ensures.counted (λ slot of_slot. (of_slot.0, of_slot.1)) in
     answered_none (rw (only, c.in-Ok.ensures.accepted, c.leaves.ensures)) (inr (rw (only, c.in-Ok.ensures.accepted)))
 
 pub returns-in-Ok-clause-tries : goal.returns-in-Ok-clause-tries
-returns-in-Ok-clause-tries g c = λ more. rw (fate_only _ _ _ _ _ _ _ _ c.requires.may.2 c.open.ensures.counted, c.in-Ok.ensures.accepted, c.leaves.ensures)
+returns-in-Ok-clause-tries g c = λ more.
+    rw (fate_only _ c.accept.new.self c.open.new.poller _ c.requires.may.2 c.open.ensures.counted (λ slot of_slot. (of_slot.0, of_slot.1)), c.in-Ok.ensures.accepted, c.leaves.ensures)
 
 pub returns-then-is_worn-clause-ended : goal.returns-then-is_worn-clause-ended
 returns-then-is_worn-clause-ended g c = λ over. inr (inr (inr (c.is_worn.ensures.0 c.if-is_worn.true)))

@@ -66,22 +66,22 @@ returns g c =
     let told = c.log_counted.ensures.logged in
     let back = c.take_back.ensures in
     let end = back.poller in
-    let last = lasts c.look.new.poller raised timed.poller accepted.done.did.poller told end in
+    let last = lasts c.look.new.poller raised timed.poller accepted.done.2.poller told end in
     let swept = rw (raised, looked.poller) at timed.swept in
     let answer = answered c.refuse_worn.result c.args.poller.now c.take_back.new.poller c.args.own.now c.take_back.new.own c.refuse_worn.ensures in
     record {
       between = between_still accepted.between back.took.seat (rw (end, told));
       early = begun_not_early _ _ (c.has_room.ensures.room c.if-not-has_room.false);
       waits = inr (rw last (waits_still _ c.args.poller.now c.look.new.poller c.args.own.now c.look.new.own c.take_back.new.own looked.waits
-          (omega (arith, rw (timed.posts.queues.free, delivered.posts.queues.free) at accepted.done.did.grew, back.took.grew))));
+          (omega (arith, rw (timed.posts.queues.free, delivered.posts.queues.free) at accepted.done.2.grew, back.took.grew))));
       made = round_of {r = c.raise_accept_flag.new.self} looked.poller looked.took delivered.posts (rw raised) timed.posts timed.poller (accept_and_took accepted.done back.took)
           (λ is. rw (back.took.seat, accepted.still is) is) (rw (end, told));
       ended = inr (inr (
         answer.0,
         record {
           read = rw last looked.batch;
-          second = rw (end, told, accepted.done.did.poller) timed.told;
-          swept = rw (end, told, accepted.done.did.poller) swept;
+          second = rw (end, told, accepted.done.2.poller) timed.told;
+          swept = rw (end, told, accepted.done.2.poller) swept;
           accepted = ended_still (rw told accepted.ended) back.left;
           raised = λ up. flag_up c.args.poller.now c.look.new.poller c.raise_accept_flag.new.self c.keep_time.new.poller c.take_back.new.poller looked.poller
               (λ up. flag_raised _ _ delivered.listener (rw raised at up)) (rw timed.poller) (rw last) (accepted.answered.raised (rw (end, told) at up));
@@ -97,10 +97,10 @@ returns g c =
         opening = rw (last, looked.poller);
         most = rw (last, looked.poller);
         longest = rw last looked.longest;
-        swept = inr (rw (end, told, accepted.done.did.poller) swept);
-        listens = listens_still c.args.poller.now (rw (told, accepted.done.did.poller, timed.poller, raised) looked.listens) back.left back.closed;
-        over = rw (told, accepted.done.did.poller, timed.poller, raised, looked.poller) at back.over;
-        took = rw (back.took.ready, accepted.done.did.ready, timed.posts.queues.ready, delivered.posts.queues.ready, looked.took.ready);
+        swept = inr (rw (end, told, accepted.done.2.poller) swept);
+        listens = listens_still c.args.poller.now (rw (told, accepted.done.2.poller, timed.poller, raised) looked.listens) back.left back.closed;
+        over = rw (told, accepted.done.2.poller, timed.poller, raised, looked.poller) at back.over;
+        took = rw (back.took.ready, accepted.done.2.ready, timed.posts.queues.ready, delivered.posts.queues.ready, looked.took.ready);
       };
       none = λ why. absurd (answer.1 (unless (begun_not_early _ _ (c.has_room.ensures.room c.if-not-has_room.false)) why));
       refused = answer.2;

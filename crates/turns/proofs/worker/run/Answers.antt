@@ -11,7 +11,7 @@ returns-in-Done g c =
     let now = c.play-turn.new.self.berth.value in
     record {
       done = played_then _ _ (Ok worked.Ended) p.0 c.args.visit.berth.value now now None c.requires.own p.2 (p.3, p.4) p.5 (refl, refl, refl)
-          (λ h settled. (rw play.ticket at c.end.ensures.done) h) p.6 (tt, refl, rw play.outcome at c.in-Done.is);
+          (λ h settled. (rw play.ticket at c.end.ensures.done) h) p.6 (refl, rw play.outcome at c.in-Done.is);
     }
 
 pub returns-in-Again : goal.returns-in-Again
@@ -32,5 +32,5 @@ returns-in-Quiet g c =
     let rest = c.rest.ensures.done in
     record {
       done = played_then _ _ (Ok worked.Quiet) p.0 c.args.visit.berth.value now rest.0 (Some (now, rest.0))
-          c.requires.own p.2 (p.3, p.4) p.5 (refl, refl, refl) (rw play.ticket at rest.4) p.6 (tt, (refl, rest.3), rw rest.3 (rw play.outcome at c.in-Quiet.is));
+          c.requires.own p.2 (p.3, p.4) p.5 (refl, refl, refl) (rw play.ticket at rest.4) p.6 (refl, rest.3, rw rest.3 (rw play.outcome at c.in-Quiet.is));
     }
