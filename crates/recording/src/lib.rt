@@ -19,6 +19,7 @@
 
 mod clock;
 mod front;
+mod gap;
 mod lines;
 mod queue;
 mod recorder;
