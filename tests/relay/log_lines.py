@@ -294,6 +294,17 @@ def unread(port=1, **settings):
     return relay, os.fdopen(reader)
 
 
+# refuses one_left_out_is_not_told: that a single line was left out is not logged
+def tells_of_the_first_line_without_room():
+    # The writer has one line, which it cannot write, and 4,096 more have room.
+    relay, log = unread(target(echo))
+    for _ in range(2048):
+        ask_once(relay)
+    with log, relay.connect() as client:
+        assert asked(client) and until(relay.sleeps)
+        assert any(line == "[WARN  relayd] log: 1 lines left out\n" for line in log)
+
+
 # refuses fault_waits_for_a_reader: a fault of serving is printed by a write that may not end
 def ends_by_a_fault_that_nobody_reads():
     relay, log = unread(descriptors=4, recorded=False)

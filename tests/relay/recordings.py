@@ -10,17 +10,22 @@ import threading
 import time
 
 from loopback import WAIT, Relay, echo, in_thread, read_all, replay, send_and_shut, target, until
-from shared import LONGEST, ask_once, asked, at_once, by_time, having, line_of, needs, numbers_in, reset, told
+from shared import LONGEST, ask_once, asked, at_once, by_time, having, line_of, needs, numbers_in, reset
 from tracing import halted
 
 FULL = "[WARN  relayd] record: records came faster than they were written, so "
 
 
 # refuses forward_overlooks_record: `forward` takes the option for a recording, and records nothing
+# refuses records_wait_for_nobody: where a file cannot be written records wait on, and none counts as lost
 def serves_on_where_nothing_can_be_recorded():
-    # A disk that is full ends the recording, and not the relay.
-    lost = "[WARN  relayd] record: No space left on device (os error 28), so the recording ends here"
-    assert told("--record", "/dev/full", typed=True, log="warn") == [lost]
+    # A disk that is full ends the recording, and not the relay. From then on records are lost.
+    relay = Relay(target(echo), options=["--record", "/dev/full", "--stats", "86400"], typed=True, log="warn", stop_after=1)
+    why = "No space left on device (os error 28), so the recording ends here"
+    assert relay.process.stderr.readline() == f"[WARN  relayd] record: {why}\n"
+    ask_once(relay)
+    (counted,) = relay.ended()
+    assert numbers_in(counted)["lost"] > 0
 
 
 # refuses recorder_swallows_reports: no report reaches a relay that records

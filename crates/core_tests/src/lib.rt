@@ -1,5 +1,5 @@
 //! The tests in Rattle: what threads do, what a log is handed, what fronts and wires over loopback answer, what a wire
-//! in memory plays, which no clause says, what a full queue refuses, readers and writers that fail after any number of
+//! in memory plays, which no clause says, what a full queue loses, readers and writers that fail after any number of
 //! bytes, calls that the programs do not make, and mutants that no row shows.
 //!
 //! They have a crate of their own, since to prove a crate's tests is to prove all its functions again. The
@@ -9,9 +9,9 @@
 #[cfg(test)]
 mod fronts;
 #[cfg(test)]
-mod messages;
+mod losing;
 #[cfg(test)]
-mod putting;
+mod messages;
 #[cfg(test)]
 mod queues;
 #[cfg(test)]

@@ -73,7 +73,6 @@ fn are_all_taken_once([one, other]: &[Taker; 2]) -> bool {
 #[test]
 fn each_ticket_is_taken_once(rt: HostRuntime) -> Result<(), Fail> {
     let mut ends = ReadyQueue::new(rt.alloc(), 8, 32)?;
-    ends.as_mut_slice().reverse();
     let mut takers = [begin(ends.pop())?, begin(ends.pop())?];
     ends.truncate(2);
     let (taking, putting) = (&mut takers[..], ends.as_mut_slice());

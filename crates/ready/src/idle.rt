@@ -162,7 +162,7 @@ impl<U: Unpark<Acts = ()>, W: Bits<Acts = ()>> IdleEnds<U, W> {
         Ok(self.wake_one(rt, wake))
     }
 
-    fn wake_one(&self, rt: &impl Wait, owed: Wake) -> Spent
+    fn wake_one(&self, rt: &impl Wait, owed: Wake<W>) -> Spent
         ensures { IfSome result.0 (λ end. IsSomeAnd (slice_get self.now.parkers end) U.unparked) }
     {
         let mut wake = owed;

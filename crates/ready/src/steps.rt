@@ -6,6 +6,7 @@ ghost use Rattle.ready.specs.Steps.{ReadBits, SetBits, ClearedBits, bit_of, has_
 
 use crate::flags::{Bits, Unpark};
 use crate::idle::EndNumber;
+use std::marker::PhantomData;
 use std::sync::Wait;
 use std::sync::atomic::AtomicU32;
 
@@ -71,8 +72,9 @@ pub(crate) struct Slept {
 }
 
 /// The duty to wake an idle end for an item that was put. Only [`push`] makes one, and [`IdleBits::withdraw`] if
-/// another thread has spent a wake on the caller's end. A wake can be neither copied nor dropped: it is `Spent`.
-pub(crate) struct Wake(());
+/// another thread has spent a wake on the caller's end. A wake can be neither copied nor dropped: it is `Spent` at bits
+/// of its kind, `W`. Code over any kind has no bits but those that it is given.
+pub(crate) struct Wake<W>(PhantomData<W>);
 
 /// A wake was spent after its item was put: this end was unparked for it, or one look found no end idle.
 #[derive(Drop)]
@@ -102,12 +104,16 @@ pub struct Drained<N = ()> {
 }
 
 /// Puts an item, and returns the wake that it needs.
-pub(crate) fn push<T, L: Put<T>>(rt: &impl Wait, line: &mut L, item: T) -> Result<Wake, L::Refused>
+pub(crate) fn push<T, L: Put<T>, W>(
+    rt: &impl Wait,
+    line: &mut L,
+    item: T,
+) -> Result<Wake<W>, L::Refused>
     ensures put { OnOk result (L.did_put line.old item line.new) }
     ensures refused { IfErr result (λ why. L.refused line.old item why line.new) }
 {
     line.put(rt, item)?;
-    Ok(Wake(()))
+    Ok(Wake(PhantomData))
 }
 
 /// Looks, after the step that gave `after`.
@@ -183,7 +189,7 @@ impl<W: Bits> IdleBits<W> {
 
     /// Clears the bit of an end that has looked since it announced itself. If another thread had cleared the bit
     /// before, returns the wake that it spent on this end.
-    pub(crate) fn withdraw(&self, acts: &mut W::Acts, looked: Looked<Announced>) -> Option<Wake>
+    pub(crate) fn withdraw(&self, acts: &mut W::Acts, looked: Looked<Announced>) -> Option<Wake<W>>
         ensures cleared { (before : ℕ) × W.did (ClearedBits (bit_of looked.0.end) before) self.now.0 acts.old acts.new
             × (IsSome result ↔ IsTrue (not (has_bit looked.0.end before))) }
     {
@@ -191,8 +197,10 @@ impl<W: Bits> IdleBits<W> {
         // the other put's item would wait until this end comes back, while a third end sleeps.
         let Looked(Announced { end }) = looked;
         let bit = 1u32 << end;
-        let was_woken = self.0.clear(acts, bit) & bit == 0;
-        if was_woken { Some(Wake(())) } else { None }
+        if self.0.clear(acts, bit) & bit != 0 {
+            return None;
+        }
+        Some(Wake(PhantomData))
     }
 
     /// Clears the bit of an end that has slept. The end looks again, so a wake that another thread spent on it is used
@@ -210,9 +218,9 @@ impl<W: Bits> IdleBits<W> {
         &self,
         acts: &mut W::Acts,
         end: usize,
-        wake: Wake,
+        wake: Wake<W>,
         parkers: &[U],
-    ) -> Result<Spent, Wake>
+    ) -> Result<Spent, Wake<W>>
         requires { (end < 32) × (end < length parkers.now) }
         ensures cleared { (before : ℕ) × W.did (ClearedBits (bit_of end) before) self.now.0 acts.old acts.new
             × (IsOk result ↔ IsTrue (has_bit end before)) }
@@ -223,13 +231,17 @@ impl<W: Bits> IdleBits<W> {
         if self.0.clear(acts, bit) & bit == 0 {
             return Err(wake);
         }
-        let Wake(()) = wake;
+        let Wake(_) = wake;
         parkers[end].give();
         Ok(Spent(Some(end)))
     }
 
     /// Looks once. Returns the lowest end whose bit is set, and the wake; or the wake is spent, since no end is idle.
-    pub(crate) fn look_for(&self, acts: &mut W::Acts, wake: Wake) -> Result<(usize, Wake), Spent>
+    pub(crate) fn look_for(
+        &self,
+        acts: &mut W::Acts,
+        wake: Wake<W>,
+    ) -> Result<(usize, Wake<W>), Spent>
         ensures looked { (bits : ℕ) × W.did (ReadBits bits) self.now.0 acts.old acts.new × (IsErr result ↔ bits ≡ 0)
             × IfOk result (λ found. found.0 ≡ trailing_zeros w32 bits) }
         ensures end { IfOk result (λ found. found.0 < 32) }
@@ -241,7 +253,7 @@ impl<W: Bits> IdleBits<W> {
         if bits != 0 {
             return Ok((bits.trailing_zeros() as usize, wake));
         }
-        let Wake(()) = wake;
+        let Wake(_) = wake;
         Err(Spent(None))
     }
 

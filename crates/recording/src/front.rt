@@ -34,25 +34,14 @@ pub fn record_all<F: Front + Drop, S: Sink>(
 {
     let mut all = Vec::with_capacity(alloc, fronts.len())?;
     for front in fronts {
-        let poller = all.len();
-        all.push_reserved(recorded(front, poller, recorder));
+        let (poller, inner) = (all.len(), Inner::new(front));
+        all.push_reserved(RecordedFront {
+            inner,
+            poller,
+            recorder: recorder.another(),
+        });
     }
     Ok(all)
-}
-
-fn recorded<F: Drop, S: Sink>(
-    inner: F,
-    poller: usize,
-    recorder: &Recorder<S>,
-) -> RecordedFront<F, S>
-    ensures inner { result.inner ≡ inner }
-    ensures number { result.poller ≡ poller }
-{
-    RecordedFront {
-        inner: Inner::new(inner),
-        poller,
-        recorder: recorder.another(),
-    }
 }
 
 impl<F: Drop, S: Sink> Drop for RecordedFront<F, S> {

@@ -17,6 +17,7 @@
 
 mod clock;
 mod front;
+mod gap;
 mod lines;
 mod queue;
 mod recorder;

@@ -1,6 +1,7 @@
 // The queues of waiting records.
 ghost use Rattle.std.specs.Prelude.{◌≡◌, IfOk, replicate};
 
+use crate::gap::{Breaks, Full, NoneWaits, full_after};
 use crate::recorder::Sink;
 use crossbeam_queue::ArrayQueue;
 use crossbeam_utils::CachePadded;
@@ -39,9 +40,7 @@ pub struct RecordQueue {
     began: Option<Instant>,
     /// Each act changes it, so it shares no cache line with what each act only looks at.
     count: CachePadded<AtomicU64>,
-    /// How often a record found no room, or could not be written, plus how often the writer had recording go on. Odd:
-    /// no act that begins now is recorded.
-    breaks: AtomicU64,
+    pub(crate) breaks: Breaks,
     in_parts: bool,
     /// Where records that are lost are counted.
     statistics: Option<Arc<Statistics>>,
@@ -69,7 +68,7 @@ impl RecordQueue {
             split,
             began: Instant::now(rt).ok(),
             count: CachePadded::new(AtomicU64::new(0)),
-            breaks: AtomicU64::new(0),
+            breaks: Breaks::none(),
             in_parts,
             statistics,
         })
@@ -91,8 +90,8 @@ impl RecordQueue {
         }
     }
 
-    pub(crate) fn is_over(&self) -> bool {
-        self.breaks.load(SeqCst) % 2 == 1
+    fn is_over(&self) -> bool {
+        self.breaks.read() % 2 == 1
     }
 
     /// Whether an act that begins now is recorded. If not, its record is lost.
@@ -113,27 +112,17 @@ impl RecordQueue {
 
     /// Ends the recording early, and closes the queues. Returns false if a record that found no room had ended it.
     pub(crate) fn stop(&self) -> bool {
-        let is_first = self.breaks.fetch_or(1, SeqCst) % 2 == 0;
-        self.waiting.close();
-        is_first || self.in_parts
+        self.breaks.stop() || self.in_parts
     }
 
     /// Puts a record after the others. Returns whether it waits there, and whether it is the first for which there was
     /// no room: from then on nothing is recorded, in parts until the writer has written what waits.
     fn put(&self, rt: &impl Wait, record: &Record) -> (bool, bool) {
-        let breaks = self.breaks.load(SeqCst);
         if self.put_one(rt, record) {
             return (true, false);
         }
-        if breaks % 2 == 1 {
-            return (false, false);
-        }
-        // If another record found no room meanwhile, recording goes on after this one's counts, or not at all.
-        if self
-            .breaks
-            .compare_exchange(breaks, breaks | 1, SeqCst, SeqCst)
-            .is_err()
-        {
+        // If recording has gone on meanwhile, the next part ends, too.
+        if !self.breaks.stop() {
             return (false, false);
         }
         if self.in_parts {
@@ -149,14 +138,13 @@ impl RecordQueue {
         self.waiting.put(rt, at, *record).is_some()
     }
 
-    /// In parts, once records were lost: has recording go on, and returns the record after which the next part begins.
-    /// `breaks` changes first: so what was lost, or is not recorded, had begun before the counts of this record.
-    pub(crate) fn go_on(&self) -> Option<Record> {
-        if !self.in_parts || !self.is_over() {
+    /// In parts, once records were lost and what waited is written: has recording go on, and returns the record after
+    /// which the next part begins.
+    pub(crate) fn go_on(&self, none_waits: NoneWaits) -> Option<Full> {
+        if !self.in_parts {
             return None;
         }
-        self.breaks.fetch_add(1, SeqCst);
-        Some(self.record_of(Act::Full))
+        Some(full_after(self.breaks.go_on(none_waits)?, self))
     }
 
     /// The poller that did the act, or has its slot. 0 if there is neither.
@@ -182,7 +170,7 @@ impl RecordQueue {
     }
 
     /// A record with the next two counts.
-    fn record_of(&self, act: Act) -> Record {
+    pub(crate) fn record_of(&self, act: Act) -> Record {
         let (before, after) = (self.next(1), self.next(1));
         Record { before, after, act }
     }

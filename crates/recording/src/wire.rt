@@ -92,7 +92,9 @@ fn end<S: Sink>(name: Option<Token>, recorder: &mut Recorder<S>, begun: Begun, m
 }
 
 impl<W: Drop, S: Sink> Drop for RecordedWire<W, S> {
-    fn drop(self) {
+    fn drop(self)
+        ensures recorded { (new : _) × WireRecords S.did self.name Drop self.recorder.sink new }
+    {
         let RecordedWire {
             inner,
             name,

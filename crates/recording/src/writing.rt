@@ -1,6 +1,7 @@
 // The thread that writes.
+use crate::gap::write_some;
 use crate::lines::Lines;
-use crate::queue::{MAX_RUN, QUEUES, RecordQueue, soon};
+use crate::queue::{RecordQueue, soon};
 use log::{Log, warn};
 use records::{Header, Parts};
 use std::io;
@@ -54,13 +55,6 @@ impl<R: Wait, P: Parts> Writer<'_, R, P> {
         self.lines.put(&queue.last(drained))?;
         self.lines.flush()
     }
-
-    fn go_on(&mut self) -> io::Result<()> {
-        match self.queue.go_on() {
-            Some(full) => self.lines.put(&full),
-            None => Ok(()),
-        }
-    }
 }
 
 impl<R: Wait, P: Parts> Drain for Writer<'_, R, P> {
@@ -69,11 +63,11 @@ impl<R: Wait, P: Parts> Drain for Writer<'_, R, P> {
     fn drain(&mut self) -> io::Result<bool> {
         let mut found = false;
         for _look in self.rt.forever() {
-            let was_over = self.queue.is_over();
-            if !write_some(self.rt, self.queue, &mut self.lines)? {
+            let seen = self.queue.breaks.read();
+            if let Some(none_waits) = write_some(self.rt, self.queue, seen, &mut self.lines)? {
                 // What was put before the gap is written: nothing waited after it had begun.
-                if was_over {
-                    self.go_on()?;
+                if let Some(full) = self.queue.go_on(none_waits) {
+                    self.lines.put(&full.0)?;
                 }
                 break;
             }
@@ -82,24 +76,4 @@ impl<R: Wait, P: Parts> Drain for Writer<'_, R, P> {
         self.lines.flush()?;
         Ok(found)
     }
-}
-
-/// Writes up to [`MAX_RUN`] records of each queue. Returns whether there was one. Without the limit, threads that
-/// record as fast as it writes could hold it at one queue while the others fill.
-fn write_some<R: Wait, P: Parts>(
-    rt: &R,
-    queue: &RecordQueue,
-    lines: &mut Lines<P>,
-) -> io::Result<bool> {
-    let mut some = false;
-    for at in 0..QUEUES {
-        for _record in 0..MAX_RUN {
-            let Some(record) = queue.waiting.take(rt, at) else {
-                break;
-            };
-            lines.put(&record)?;
-            some = true;
-        }
-    }
-    Ok(some)
 }

@@ -10,7 +10,7 @@ loop-front-preserved g c =
     record {
       left = rw (c.push_reserved.ensures.items, length-append) (omega (arith, c.in-Some.ensures.steps.1, was.left));
       room = rw c.push_reserved.ensures.capacity was.room;
-      seen = rw (c.push_reserved.ensures.items, map-append, append_assoc, c.recorded.ensures.inner) (rw next at was.seen);
-      numbers = rw (c.push_reserved.ensures.items, map-append, length-append, was.numbers, c.recorded.ensures.number, c.len-poller.ensures, more)
+      seen = rw (c.push_reserved.ensures.items, map-append, append_assoc, c.new-inner.ensures) (rw next at was.seen);
+      numbers = rw (c.push_reserved.ensures.items, map-append, length-append, was.numbers, c.len-poller.ensures, more)
           (ap (λ (n : ℕ). range_with_len 0 count ++ n ∷ []) (search rules));
     }
