@@ -110,7 +110,7 @@ impl RecordQueue {
         }
     }
 
-    /// Ends the recording early, and closes the queues. Returns false if a record that found no room had ended it.
+    /// Ends the recording early. Returns false if a record that found no room had ended it.
     pub(crate) fn stop(&self) -> bool {
         self.breaks.stop() || self.in_parts
     }
