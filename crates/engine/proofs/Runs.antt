@@ -2,7 +2,7 @@
 -- and to what the wires counted of it.
 use Rattle.std.{proofs.{Common.{◌≡◌, ◌⊎◌, inl, inr, ℕ, ◌≤◌, true, false, List, [], ◌++◌, length, take, Option, Some, None, refl, sym, ◌∙◌, ap, append-nil, add-zero, ◌+◌, Bool, ◌∷◌, append_assoc, length-append, zero-add, add_assoc, arith, option_map, unwrap_or}, lemmas.{Grind.common_steps, Option.option_and_then_some}, KnownBytes.{Appends-nil, Consumes-nil, Consumes-trans, Appends-trans}}, specs.{Prelude.{if◌then◌else◌, OnSome}, Io.KnownBytes.{Consumes, Appends, Keeps}, declared.io.ErrorKind.ErrorKind}}
 use Rattle.relay_core.{specs.{declared.{Direction.Direction, Side.{Side, TheVariants.{Client, Target}}, call.Call.{Call, TheVariants.{Write, Read}}, verdict.Fault.{Fault, TheVariants.{Broken, Idle}}}, Calls.side_of, Pairs.{PairState, verdict}, Order.{offer, next_call}, Replies.{AnswerValue, Bytes, Wrote, Blocked, fits, after}, Runs.{brought, carried, answered, over, all_brought, all_carried}, Idle.{is_overdue, expired}, Laws.{TellsOf, IsOverdue}}, proofs.Pairs.{take-offer, answers_are_to_next_calls, failures_are_told, only_overdue_pairs_expire}}
-use Rattle.engine.specs.{Classes.kind_of_error, Wires.{Asked, Given, Refused, WireView, Rises}, Turns.{IsToldBy, asked, is_failed, is_blocked, way_from, way_to, one_if, count_on, same_side, MadeCall, made_if, made_on, AreCalled, IsServed, FailsBy, IsTurn}, Steps.{IsErrorReply, IsError, IsStep, IsAnswered, IsMove}}
+use Rattle.engine.specs.{Classes.kind_of_error, Wires.{Asked, Given, Refused, WireView, Rises}, Turns.{IsAnsweredBy, asked, is_failed, is_blocked, way_from, way_to, one_if, count_on, same_side, MadeCall, made_if, made_on, AreCalled, IsServed, FailsBy, IsTurn}, Steps.{IsErrorReply, IsError, IsStep, IsAnswered, IsMove}}
 use Rattle.relay_core.specs.declared.verdict.Verdict.TheVariants as verdict
 
 -- ---- one call
@@ -40,14 +40,14 @@ record IsIdle (p : PairState) (call : Call) (error : ErrorKind) (reply : AnswerV
   pub fit : fits p call reply ≡ true
   pub brings : (d : Direction) → brought d call reply ≡ []
   pub carries : (d : Direction) → carried p d call reply ≡ []
-  pub told : IsToldBy (Refused error) reply
+  pub told : IsAnsweredBy (Refused error) reply
 
 error_idle : (p : PairState) (call : Call) (error : ErrorKind) (reply : AnswerValue) → fits p call Blocked ≡ true → IsErrorReply (kind_of_error error) reply → IsIdle p call error reply
 error_idle p call error reply may sort = grind (arith, common_steps)
 
 module _ {S : Type 0} {does : Asked → Given → S → S → Type 0} {told : S → WireView} {old new : S} {now : ℕ} {call : Call} {p q : PairState} where
   -- an answer that moves nothing
-  pub unmoved : (given : Given) (reply : AnswerValue) → IsToldBy given reply → does (asked p call) given old new → fits p call reply ≡ true → q ≡ after now p call reply
+  pub unmoved : (given : Given) (reply : AnswerValue) → IsAnsweredBy given reply → does (asked p call) given old new → fits p call reply ≡ true → q ≡ after now p call reply
       → brought (way_from (side_of call)) call reply ≡ [] → carried p (way_to (side_of call)) call reply ≡ []
       → Keeps (told old).remaining (told new).remaining → Keeps (told old).written (told new).written
       → Rises (told old).faults (told new).faults (if is_failed reply then 1 else 0) → Rises (told old).blocks (told new).blocks (if is_blocked reply then 1 else 0)

@@ -80,20 +80,20 @@ IsFailure (Refused error) kind = kind ≡ kind_of_error error
 IsFailure given kind = ⊥
 
 -- the pair's answer says what the call gave; which of three answers an error becomes shows in the count that rose (`IsMade`)
-abbrev pub IsToldBy : Given → AnswerValue → Type 0
-IsToldBy given (Bytes bytes) = given ≡ Brought bytes
-IsToldBy given End = given ≡ Brought []
-IsToldBy given (Wrote n) = given ≡ Took n
-IsToldBy given Joined = given ≡ Done
-IsToldBy given Shut = given ≡ Done
-IsToldBy given Blocked = (error : ErrorKind) × (given ≡ Refused error)
-IsToldBy given Interrupted = (error : ErrorKind) × (given ≡ Refused error)
-IsToldBy given (Failed kind) = IsFailure given kind
+abbrev pub IsAnsweredBy : Given → AnswerValue → Type 0
+IsAnsweredBy given (Bytes bytes) = given ≡ Brought bytes
+IsAnsweredBy given End = given ≡ Brought []
+IsAnsweredBy given (Wrote n) = given ≡ Took n
+IsAnsweredBy given Joined = given ≡ Done
+IsAnsweredBy given Shut = given ≡ Done
+IsAnsweredBy given Blocked = (error : ErrorKind) × (given ≡ Refused error)
+IsAnsweredBy given Interrupted = (error : ErrorKind) × (given ≡ Refused error)
+IsAnsweredBy given (Failed kind) = IsFailure given kind
 
 -- one call was made on a wire: what it gave became the answer, and it did what the wire specifies
 pub record IsCalled {S : Type 0} (does : Asked → Given → S → S → Type 0) (call : MadeCall) (old new : S) : Type 0 where
   pub given : Given
-  pub told : IsToldBy given call.reply
+  pub told : IsAnsweredBy given call.reply
   pub did : does call.asked given old new
 
 -- such a call, and the wire counted its answer if that is a fault or "would block"

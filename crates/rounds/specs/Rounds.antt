@@ -62,8 +62,8 @@ module _ {S : Type 0} (acts : Made S) (part : Part) where
     pub queues : SameQueues had has
 
 -- no free slot is in hand
-abbrev pub NoSlot : Own → Type 0
-NoSlot own = own.hand.slots ≡ []
+abbrev pub NoSlotInHand : Own → Type 0
+NoSlotInHand own = own.hand.slots ≡ []
 
 -- a look for reports changes at most this of what the poller keeps
 abbrev pub Looked : PollerState → PollerState → Type 0
@@ -88,15 +88,15 @@ ListensToOpen p = HasOpenedAll p → p.seen.listens ≡ false
 -- why no connection can be accepted now: the flag is down, no free slot is in hand (the code alone says that the queue had none
 -- either), or the poller has opened all that it may
 abbrev pub NoneToAccept : PollerState → Own → Type 0
-NoneToAccept p own = (p.accepting ≡ false) ⊎ (NoSlot own ⊎ HasOpenedAll p)
+NoneToAccept p own = (p.accepting ≡ false) ⊎ (NoSlotInHand own ⊎ HasOpenedAll p)
 
 -- accepting may end if no connection can be accepted now, or if the system lacked what accept(2) needs
 abbrev pub AcceptMayEnd : PollerState → Own → Type 0
 AcceptMayEnd p own = (p.starved ≡ true) ⊎ NoneToAccept p own
 
 -- the poller waits only if no sweep is due, no ticket is in hand, and accepting may end
-abbrev pub MayWait : ℕ → PollerState → Own → Type 0
-MayWait limit p own = (is_due limit p ≡ false) × (own.hand.tickets ≡ []) × AcceptMayEnd p own
+abbrev pub MayWaitLong : ℕ → PollerState → Own → Type 0
+MayWaitLong limit p own = (is_due limit p ≡ false) × (own.hand.tickets ≡ []) × AcceptMayEnd p own
 
 -- a client was left to other pollers, and may still be accepted: the flag is up
 abbrev pub HasLeft : PollerState → Type 0
@@ -127,8 +127,8 @@ abbrev pub AcceptEnded : PollerState → Own → Type 0
 AcceptEnded p own = AcceptMayEnd p own ⊎ (HasLeft p ⊎ ((p.tries ≡ 0) ⊎ IsWorn own.seat))
 
 -- a round does not begin if its hand has no room for a ticket of each slot and 512 more
-abbrev pub EndedEarly : ℕ → Own → Type 0
-EndedEarly slots own = ticket_room own.hand < spare_room + slots
+abbrev pub LacksRoom : ℕ → Own → Type 0
+LacksRoom slots own = ticket_room own.hand < spare_room + slots
 
 -- such a round only empties its batch
 pub record NoRound (old new : PollerState) (had has : Own) : Type 0 where
@@ -151,7 +151,7 @@ MayNotWait limit p had has = (is_due limit p ≡ true) ⊎ ((had.hand.tickets �
 
 -- a wait for reports is as long as it may be with what the thread owns now
 abbrev pub WaitsAsMay : Waiting → ℕ → PollerState → Own → Type 0
-WaitsAsMay waiting.Long limit p own = MayWait limit p own
+WaitsAsMay waiting.Long limit p own = MayWaitLong limit p own
 WaitsAsMay waiting.Brief limit p own = MayWaitBriefly limit p own
 WaitsAsMay waiting.No limit p own = MayNotWait limit p own own
 
@@ -159,7 +159,7 @@ WaitsAsMay waiting.No limit p own = MayNotWait limit p own own
 -- all
 abbrev pub WaitedAsMay : ℕ → PollerState → PollerState → Own → Own → Type 0
 WaitedAsMay limit old new had has =
-    ((new.seen.waited ≡ old.seen.longest) × MayWait limit old had)
+    ((new.seen.waited ≡ old.seen.longest) × MayWaitLong limit old had)
     ⊎ (((new.seen.waited ≡ 1) × MayWaitBriefly limit old had)
     ⊎ ((new.seen.waited ≡ 0) × MayNotWait limit old had has))
 
@@ -167,7 +167,7 @@ WaitedAsMay limit old new had has =
 pub record IsFull (p : PollerState) (own : Own) : Type 0 where
   pub reported : Contains p.batch 0
   pub may_open : HasOpenedAll p → ⊥
-  pub slot : NoSlot own
+  pub slot : NoSlotInHand own
 
 -- each of the poller's slots is in hand or no longer used
 abbrev pub IsBack : PollerState → Own → Type 0

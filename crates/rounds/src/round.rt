@@ -1,6 +1,6 @@
 //! A round of the poller.
 ghost use Rattle.std.specs.{Prelude.{◌≡◌, ◌⊎◌, ◌+◌, ◌-◌, ◌<◌, ◌≤◌, ◌↔◌, List, [], length, Err, IsOk, IfErr, IsSome, IsTrue, MatchResult, OnErr, OnOk, Contains, true, false}, IoError.error_kind, declared.io.ErrorKind.TheVariants.Interrupted};
-ghost use Rattle.rounds.specs.{Acts.{SeatAct, all_reported}, Episodes.{episodes_after, flag_after, starved_after}, Openings.{Between, Connected, OnlyTook, TriesMade}, Pollers.{HasOpenedAll, max_accepts, spare_room}, Rounds.{AcceptEnded, AllPosted, EndedEarly, IsFull, IsOver, ListensNoMore, ListensToOpen, Looked, LooksForAll, MayAccept, NoSlot, NoneToAccept, NoRound, OnlyAnswered, OnlyListens, RoundEnded, RoundInOrder, RoundKeeps, RoundRefused, WaitedAsMay, WaitsAsMay}};
+ghost use Rattle.rounds.specs.{Acts.{SeatAct, all_reported}, Episodes.{episodes_after, flag_after, starved_after}, Openings.{Between, Connected, OnlyTook, TriesMade}, Pollers.{HasOpenedAll, max_accepts, spare_room}, Rounds.{AcceptEnded, AllPosted, LacksRoom, IsFull, IsOver, ListensNoMore, ListensToOpen, Looked, LooksForAll, MayAccept, NoSlotInHand, NoneToAccept, NoRound, OnlyAnswered, OnlyListens, RoundEnded, RoundInOrder, RoundKeeps, RoundRefused, WaitedAsMay, WaitsAsMay}};
 ghost use Rattle.common.specs.{Hands.{HasRoom, ticket_room}, Posts.IsWorn, Told.{unaccepted_of, Waited}};
 
 use crate::delivering::{deliver, refuse_worn};
@@ -64,13 +64,13 @@ pub fn poller_round<F: Front, A: Moves<F>, C: Clock, R: Wait + Log>(
     ensures made { RoundInOrder A.moved A.named A.registered A.made F.accepted F.may_tell poller.old poller.new
         own.old own.new acts.old acts.new }
     ensures keeps { RoundKeeps timing.now.limit poller.old poller.new own.old own.new }
-    ensures waits { EndedEarly shared.now.claims.words own.old ⊎ WaitedAsMay timing.now.limit poller.old poller.new own.old own.new }
-    ensures ended { EndedEarly shared.now.claims.words own.old ⊎ ((result ≡ Err ServerFault.Poll)
+    ensures waits { LacksRoom shared.now.claims.words own.old ⊎ WaitedAsMay timing.now.limit poller.old poller.new own.old own.new }
+    ensures ended { LacksRoom shared.now.claims.words own.old ⊎ ((result ≡ Err ServerFault.Poll)
         ⊎ (((result ≡ Err ServerFault.Worn) ↔ IsWorn own.new.seat)
         × RoundEnded (C.tells timing.now.clock.now) F.gave_none timing.now.limit poller.old poller.new own.new)) }
-    ensures early { EndedEarly shared.now.claims.words own.old → IsOk result × NoRound poller.old poller.new own.old own.new }
+    ensures early { LacksRoom shared.now.claims.words own.old → IsOk result × NoRound poller.old poller.new own.old own.new }
     ensures refused { IfErr result (λ fault. RoundRefused fault poller.old poller.new own.old own.new) }
-    ensures none { EndedEarly shared.now.claims.words own.old ⊎ (result ≡ Err ServerFault.Poll) → acts.new ≡ acts.old }
+    ensures none { LacksRoom shared.now.claims.words own.old ⊎ (result ≡ Err ServerFault.Poll) → acts.new ≡ acts.old }
 
     // What follows from `made`, so that the next round may begin:
     ensures between { Between shared.now.claims own.new poller.new }
@@ -339,7 +339,7 @@ fn has_slot<R: Wait>(rt: &R, own: &mut Own) -> Result<(), Empty<usize>>
     requires room { 1 ≤ ticket_room own.old.hand }
     ensures took { OnlyTook own.old own.new }
     ensures slot { OnOk result (1 ≤ length own.new.hand.slots) }
-    ensures none { OnErr result (NoSlot own.new × (own.new ≡ own.old)) }
+    ensures none { OnErr result (NoSlotInHand own.new × (own.new ≡ own.old)) }
 {
     if own.hand.slots() > 0 {
         return Ok(());

@@ -1,7 +1,7 @@
 -- Which ends of the queues of free slots the threads get, and in which order the threads are made.
 use Rattle.std.{proofs.{Common.{◌≡◌, ℕ, zero, suc, ◌+◌, List, [], ◌∷◌, ◌++◌, length, drop, map, All, slice_index_or, Some, ◌<◌, refl, sym, add-one, append_assoc, append-nil, arith}, Math.Seq.drop-cons, lemmas.List.{map-append, map-id, nil_from_length, reverse-append, FromFn.map-range_with_len_more, Elements.{All-push, Contains-append_left, Contains-push}}}, specs.{Prelude.{Contains, Option, None, IfSome, option_to_list}, List.{slice_set, enumerate_from, range_with_len}}}
 use Rattle.ready.specs.Steps.{EndState}
-use Rattle.threads.{specs.Divided.{numbered, IsEndOf, AreLeft, HasOneOfEach, OfFirst}, proofs.Served.{next_of_first, through}}
+use Rattle.threads.{specs.Divided.{numbered, IsEndOf, AreLeft, HasOneOfEach, PairsOff}, proofs.Served.{next_of_first, through}}
 
 abbrev pub End : Type 0
 End = EndState ℕ
@@ -36,7 +36,7 @@ range_more first n = simp map-id at (map-range_with_len_more (λ (x : ℕ). x) f
 
 -- one more in order
 pub one_end_more : {old new : List (List End)} (poller : ℕ) (xs ys : List End) (x : End) → ys ≡ xs ++ x ∷ [] → poller < length old → AreLeft old new
-    → IsEndOf new poller x → OfFirst Contains (drop 1 old) xs (drop poller old) → OfFirst Contains (drop 1 old) ys (drop (poller + 1) old)
+    → IsEndOf new poller x → PairsOff Contains (drop 1 old) xs (drop poller old) → PairsOff Contains (drop 1 old) ys (drop (poller + 1) old)
 one_end_more {old} {new} poller xs ys x more within left is these = rw (more, add-one) (next_of_first Contains (drop 1 old) xs
     (slice_index_or old poller []) (drop (suc poller) old) x (rw (drop-cons old poller [] within) at these) (end_of_left old new poller x left is))
 
@@ -71,7 +71,7 @@ module _ {X : Type 0} where
   numbers_more g made now x first n more is so = rw (more, map-append, is, so) (sym (range_more first n))
 
 -- one of each queue, the first poller's last
-pub one_of_each : (ends : List (List End)) {new : List (List End)} {end : End} (others : List End) → OfFirst Contains (drop 1 ends) others [] → AreLeft ends new
+pub one_of_each : (ends : List (List End)) {new : List (List End)} {end : End} (others : List End) → PairsOff Contains (drop 1 ends) others [] → AreLeft ends new
     → IsEndOf new 0 end → HasOneOfEach ends (end ∷ others)
 one_of_each [] {new} {end} others are left is = let first = (end_of_left [] new 0 end left is).1 in absurd (omega arith)
 one_of_each (x ∷ xs) {new} {end} others are left is = (end_of_left (x ∷ xs) new 0 end left is, are)

@@ -6,7 +6,7 @@ use Rattle.sizes.specs.{declared.faults.ServerFault.{ServerFault, TheVariants.{P
 use Rattle.common.specs.{declared.{front.Unaccepted.Unaccepted, shared.Own.Own}, Acts.Made, Hands.HandState, Outgoing.{Inserted, outgoing, tickets_out, slots_out}, Posts.IsWorn}
 use Rattle.turns.specs.{declared.worker.{HandPut.HandPut, Worked.Worked}, Turns.{TicketsKept, SlotsKept, TurnMade, WorkerTurn, Handled, Playing, NoOwnTurn, marks_after}}
 use Rattle.threads.{proofs.Divided.End, specs.{Divided.ends_of, declared.{ending.Why.{Why, TheVariants.FaultFound}, working.Owned.Owned}, Loops.{faults_by, times_of, freed, Run, seat_acts, due_from, fault_in, faults_of, IsRun, TurnsMade, takes_of, times_by, times_given, SlotsGiven, Changes, OthersKept, OneRan, tickets_in, Took, WorkerMayEnd, WorkerEnded, WorkerRan, OnlyMarked, OwnTurnMade, SharedAndRan, TurnsAfter, StopAsked, RoundMade, RoundOver}}}
-use Rattle.rounds.{specs.{Pollers.PollerState, Rounds.{EndedEarly, NoRound, RoundDone, RoundEnded, RoundKeeps, WaitedAsMay}, Acts.made_by, Openings.times}, proofs.Acts.{all_none, all_one, acts_none, acts_one, acts_both, due-append}}
+use Rattle.rounds.{specs.{Pollers.PollerState, Rounds.{LacksRoom, NoRound, RoundDone, RoundEnded, RoundKeeps, WaitedAsMay}, Acts.made_by, Openings.times}, proofs.Acts.{all_none, all_one, acts_none, acts_one, acts_both, due-append}}
 use Rattle.turns.specs.declared.worker.Worked.TheVariants as worked
 
 -- how often a ticket, or a slot, stands in lists one after the other
@@ -272,14 +272,14 @@ one_more {q = q} {b = b} made turn = rw add-one (record {
 module _ {said : Bool → Type 0} (tells : ℕ → Type 0) (gave_none : Unaccepted → Type 0) {limit words : ℕ} {p q : PollerState} {a b : Own} where
   -- a round, after a look at the flag
   abbrev pub round_made : {begun : PollerState} → StopAsked said p begun → RoundDone begun q a b → RoundKeeps limit begun q a b
-      → words ≡ length q.table → EndedEarly words a ⊎ WaitedAsMay limit begun q a b
+      → words ≡ length q.table → LacksRoom words a ⊎ WaitedAsMay limit begun q a b
       → RoundMade said tells gave_none limit p q a b
   round_made {begun} asked done keeps same waits = record { begun = begun; asked = asked; round = done; keeps = keeps; waits = rw same at waits }
 
   -- it was not refused
   pub round_over : {done : Unit {0}} (made : RoundMade said tells gave_none limit p q a b) → words ≡ length q.table
-      → (EndedEarly words a → IsOk {E = ServerFault} (Ok done) × NoRound made.begun q a b)
-      → EndedEarly words a ⊎ ((Ok done ≡ Err Poll) ⊎ (((Ok done ≡ Err Worn) ↔ IsWorn b.seat) × RoundEnded tells gave_none limit made.begun q b))
+      → (LacksRoom words a → IsOk {E = ServerFault} (Ok done) × NoRound made.begun q a b)
+      → LacksRoom words a ⊎ ((Ok done ≡ Err Poll) ⊎ (((Ok done ≡ Err Worn) ↔ IsWorn b.seat) × RoundEnded tells gave_none limit made.begun q b))
       → RoundOver said tells gave_none limit p q a b
   round_over made same early (inl few) = record { made = made; ended = inl (rw (← same) few, (early few).1) }
   round_over made same early (inr (inl failed)) = absurd (cc failed)

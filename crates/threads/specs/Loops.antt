@@ -7,7 +7,7 @@ use Rattle.sizes.specs.declared.faults.ServerFault.{ServerFault}
 use Rattle.common.specs.{declared.{front.Unaccepted.Unaccepted, shared.Own.Own}, Outgoing.{tickets_out, without_first}, Posts.{IsWorn, OnlyWorn}}
 use Rattle.sizes.specs.{declared.split.Split.Split, Limits.own_turns, Splits.{IsIn, part_of, parts_of}}
 use Rattle.turns.specs.{declared.worker.Worked.Worked, Shares.TicketsShared, Turns.{IsTurnOf, NoOwnTurn, TurnMade, marks_after}}
-use Rattle.rounds.specs.{Acts.{SeatAct, ActsMade, due_of}, Pollers.{PollerState, HasOpenedAll}, Openings.times, Rounds.{EndedEarly, NoRound, RoundDone, RoundEnded, RoundKeeps, RoundRefused, WaitedAsMay}}
+use Rattle.rounds.specs.{Acts.{SeatAct, ActsMade, due_of}, Pollers.{PollerState, HasOpenedAll}, Openings.times, Rounds.{LacksRoom, NoRound, RoundDone, RoundEnded, RoundKeeps, RoundRefused, WaitedAsMay}}
 use Rattle.threads.specs.{declared.{ending.Why.{Why, TheVariants.{FaultFound, PollerOver, QueueClosed, Met}}, working.Owned.Owned}, Divided.ends_of}
 use Rattle.turns.specs.declared.worker.Worked.TheVariants as worked
 
@@ -240,12 +240,12 @@ module _ (said : Bool → Type 0) (tells : ℕ → Type 0) (gave_none : Unaccept
     pub asked : StopAsked said p begun
     pub round : RoundDone begun q a b
     pub keeps : RoundKeeps limit begun q a b
-    pub waits : EndedEarly (length q.table) a ⊎ WaitedAsMay limit begun q a b
+    pub waits : LacksRoom (length q.table) a ⊎ WaitedAsMay limit begun q a b
 
   -- such a round, which was not refused: the hand had no room, and nothing was done, or the seat is not worn at its end
   pub record RoundOver (p q : PollerState) (a b : Own) : Type 0 where
     pub made : RoundMade p q a b
-    pub ended : (EndedEarly (length q.table) a × NoRound made.begun q a b)
+    pub ended : (LacksRoom (length q.table) a × NoRound made.begun q a b)
         ⊎ ((IsWorn b.seat → ⊥) × RoundEnded tells gave_none limit made.begun q b)
 
   -- such a round, and what came after it

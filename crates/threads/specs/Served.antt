@@ -5,7 +5,7 @@ use Rattle.ready.specs.Steps.{EndState}
 use Rattle.common.specs.declared.shared.Own.{Own}
 use Rattle.rounds.specs.Pollers.{PollerState}
 use Rattle.common.specs.declared.front.Unaccepted.{Unaccepted}
-use Rattle.threads.specs.{declared.{context.ThreadEnd.ThreadEnd, faults.Few.Few, joining.Served.Served, working.Owned.Owned}, Divided.{HasOneOfEach, IsEndOf, OfFirst, ends_of, numbered}, Loops.{RunMade, WorkerEnded, fault_by}}
+use Rattle.threads.specs.{declared.{context.ThreadEnd.ThreadEnd, faults.Few.Few, joining.Served.Served, working.Owned.Owned}, Divided.{HasOneOfEach, IsEndOf, PairsOff, ends_of, numbered}, Loops.{RunMade, WorkerEnded, fault_by}}
 use Rattle.sizes.specs.declared.faults.ServerFault.{ServerFault, TheVariants.{Threads}}
 
 -- what a poller's thread begins with
@@ -53,7 +53,7 @@ pub record PollerRuns (said : Bool → Type 0) (tells : ℕ → Type 0) (gave_no
 -- Of the parts that have threads of their own all ran to their ends, in the order of this list; or if a thread could not be
 -- started, the first of the list: of the workers the lowest numbers, of the pollers, whose last stands first, the highest
 abbrev pub RanToEnds : {P : Type 0} → (P → ThreadEnd → Type 0) → Option Few → List P → List ThreadEnd → Type 0
-RanToEnds {P} runs few parts ends = (left : List P) × OfFirst runs parts ends left × (few ≡ None → left ≡ [])
+RanToEnds {P} runs few parts ends = (left : List P) × PairsOff runs parts ends left × (few ≡ None → left ≡ [])
 
 -- Each worker, and each poller but the first, ran to its end in a thread of its own, unless one could not be started; and
 -- the first poller, which is the last one here, in the thread that serves
@@ -64,7 +64,7 @@ pub record AllRan {P W : Type 0} (poller_runs : P → ThreadEnd → Type 0) (wor
   pub pollers_are : others ++ first ≡ pollers
   pub workers_ran : RanToEnds worker_runs served.few workers served.workers.items
   pub others_ran : RanToEnds poller_runs served.few others served.pollers.items
-  pub first_ran : OfFirst poller_runs first (option_to_list served.first) []
+  pub first_ran : PairsOff poller_runs first (option_to_list served.first) []
   pub has_first : served.first ≡ None → pollers ≡ []
 
 -- of two faults, each with its thread's number, the lower number's; of one thread's faults the first
@@ -91,4 +91,4 @@ IsOf context part handed promised = (handed ≡ context) × (promised ≡ part)
 
 -- threads were started of the first of these parts, in order; of all, if `all`
 abbrev pub AreStarted : {P H : Type 0} → (P → H → Type 0) → List P → List H → Type 0 → Type 0
-AreStarted {P} of parts handles all = (left : List P) × OfFirst of parts handles left × (all → left ≡ [])
+AreStarted {P} of parts handles all = (left : List P) × PairsOff of parts handles left × (all → left ≡ [])

@@ -2,7 +2,7 @@
 ghost use Rattle.std.specs.{Prelude.{◌≡◌, ◌≤◌, [], All, Contains, drop, map, IfOk, IfSome, OnOk}, Arc.arc_value, List.range_with_len};
 ghost use Rattle.claims.specs.Seats.{fresh_seat};
 ghost use Rattle.common.specs.{Hands.empty_hand, Posts.AreFresh};
-ghost use Rattle.threads.specs.Divided.{hand_of_poller, numbered, IsEndOf, AreLeft, HasOneOfEach, OfFirst, ends_of};
+ghost use Rattle.threads.specs.Divided.{hand_of_poller, numbered, IsEndOf, AreLeft, HasOneOfEach, PairsOff, ends_of};
 ghost use Rattle.threads.specs.Served.{IsDivided, poller_part, worker_part};
 
 use crate::polling::PollerThread;
@@ -185,7 +185,7 @@ impl Rest {
     /// An end of each queue but the first poller's, in order.
     fn other_ends(&mut self, alloc: Global) -> Result<Vec<FreeQueue>, AllocError>
         ensures parts { OnOk result (self.new.parts ≡ self.old.parts) }
-        ensures ends { IfOk result (λ ends. OfFirst Contains (drop 1 self.old.free) ends.items []) }
+        ensures ends { IfOk result (λ ends. PairsOff Contains (drop 1 self.old.free) ends.items []) }
         ensures left { OnOk result (AreLeft self.old.free self.new.free) }
     {
         let pollers = self.free.len();

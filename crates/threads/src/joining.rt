@@ -1,6 +1,6 @@
 //! The threads of parts that have one each: how they are started and joined, and the outcome of their ends.
 ghost use Rattle.std.specs.Prelude.{◌≡◌, ◌↔◌, ◌≤◌, [], IfErr, IfOk, IsOk, None, Some, fold, true, vec_capacity, vec_len};
-ghost use Rattle.threads.specs.{Divided.OfFirst, Served.{AreStarted, IsOf, fault_of, met}};
+ghost use Rattle.threads.specs.{Divided.PairsOff, Served.{AreStarted, IsOf, fault_of, met}};
 
 use crate::context::ThreadEnd;
 use crate::ending::Ending;
@@ -97,7 +97,7 @@ impl<P: Part<X>, X> Joins<P, X> {
     fn join(self, rt: &impl Threads) -> Vec<ThreadEnd>
     where
         P: Drop,
-        ensures { OfFirst (λ handle end. P.runs handle.promise.context.value handle.promise.part.value end)
+        ensures { PairsOff (λ handle end. P.runs handle.promise.context.value handle.promise.part.value end)
             self.handles.items result.items [] }
     {
         let Joins { handles, mut ends } = self;
@@ -201,9 +201,9 @@ impl<P: Part<X>, W: Part<X>, X> Crew<P, W, X> {
     where
         P: Drop,
         W: Drop,
-        ensures pollers { OfFirst (λ handle end. P.runs handle.promise.context.value handle.promise.part.value end)
+        ensures pollers { PairsOff (λ handle end. P.runs handle.promise.context.value handle.promise.part.value end)
             self.pollers.handles.items result.pollers.items [] }
-        ensures workers { OfFirst (λ handle end. W.runs handle.promise.context.value handle.promise.part.value end)
+        ensures workers { PairsOff (λ handle end. W.runs handle.promise.context.value handle.promise.part.value end)
             self.workers.handles.items result.workers.items [] }
         ensures others { (result.few ≡ few) × (result.first ≡ first) }
     {

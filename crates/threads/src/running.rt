@@ -2,7 +2,7 @@
 ghost use Rattle.std.specs.Prelude.{◌≡◌, ◌≤◌, ℕ, List, [], IfSome, None, Some, map, option_to_list, vec_capacity, vec_len};
 ghost use Rattle.claims.specs.Seats.{fresh_seat};
 ghost use Rattle.common.specs.Posts.{AreFresh};
-ghost use Rattle.threads.specs.{Divided.OfFirst, Loops.{announced}, Served.{AllRan, IsDivided, fault_of, PollerPart, PollerRuns, WorkerPart, WorkerRuns, poller_part, worker_part}};
+ghost use Rattle.threads.specs.{Divided.PairsOff, Loops.{announced}, Served.{AllRan, IsDivided, fault_of, PollerPart, PollerRuns, WorkerPart, WorkerRuns, poller_part, worker_part}};
 
 use crate::context::{Context, StopFlag, ThreadEnd};
 use crate::dividing::divide;
@@ -186,7 +186,7 @@ where
 
 /// Runs this part, if there is one, in the calling thread.
 fn run_first<P: Part<X> + Drop, X>(context: &X, first: Option<P>) -> Option<ThreadEnd>
-    ensures ran { OfFirst (P.runs context.now) (option_to_list first) (option_to_list result) [] }
+    ensures ran { PairsOff (P.runs context.now) (option_to_list first) (option_to_list result) [] }
     ensures none { result ≡ None → first ≡ None }
 {
     let mut part = first?;

@@ -7,7 +7,7 @@ use Rattle.common.{proofs.Holding.holds_from, specs.{declared.{places.Berth.Bert
 use Rattle.ready.specs.{declared.ticket.Ticket.Ticket, Steps.QueueEnd}
 use Rattle.engine.specs.Turns.{outcome_of}
 use Rattle.sizes.specs.declared.faults.ServerFault.{ServerFault, TheVariants.Worn}
-use Rattle.turns.specs.{declared.worker.Worked.Worked, Turns.{noted_by, ActsLeft, Handled, Handles, LeavesAs, Playing, RunRest, WasHeld, TurnInOrder, program, AtWork, TicketsKept, SlotGiven, SlotsKept, TurnDone, TurnRest, TurnMade, ticket_of}, Shares.{AreShared, IsLight, OneShared, Passed, Stays}}
+use Rattle.turns.specs.{declared.worker.Worked.Worked, Turns.{noted_by, ActsLeft, Handled, Handles, LeavesAs, Playing, RunRest, WasHeld, TurnInOrder, turn_exchanges, AtWork, TicketsKept, SlotGiven, SlotsKept, TurnDone, TurnRest, TurnMade, ticket_of}, Shares.{AreShared, IsLight, OneShared, Passed, Stays}}
 use Rattle.claims.specs.declared.answers.Posted.TheVariants as posted
 use Rattle.engine.specs.declared.outcome.Turn.TheVariants as turn
 use Rattle.turns.specs.declared.worker.Worked.TheVariants as worked
@@ -89,11 +89,11 @@ played_then {t = t} {a = a} {b = b} {c = c} mid then r notes old now new settled
 module _ {S C T : Type 0} (acts : Handled C T → Made S) (plays : Playing C T) {t : Ticket} {words found : ℕ} {a c : Own} {s : SeatState} (from to : S)
     (within : t.slot < words) (adds : Adds t.slot (Held found ∷ []) a.seat s) where
   -- the slot was claimed, and then the turn went on
-  pub held_made : {r : Answer} (noted : ℕ) (woke : Bool) (h : Handled C T) → WasHeld r → TurnDone t (drop 1 (program r 0 noted woke)) r (record a { seat = s }) c
+  pub held_made : {r : Answer} (noted : ℕ) (woke : Bool) (h : Handled C T) → WasHeld r → TurnDone t (drop 1 (turn_exchanges r 0 noted woke)) r (record a { seat = s }) c
       → ActsLeft (acts h) t r 0 (is_some h.found) woke from to → Handles plays noted t r h → TurnInOrder acts plays words t r a c from to
   held_made {r} noted woke h held done made handles = (
     record {
-      exchanges = Held found ∷ drop 1 (program r 0 noted woke);
+      exchanges = Held found ∷ drop 1 (turn_exchanges r 0 noted woke);
       are = record { found = found; noted = noted; woke = woke; inside = λ lt. all r held; outside = λ past. absurd (omega arith) };
       done = done_after (Held found ∷ []) adds refl (refl, refl, refl) (slots_as t a (record a { seat = s }) c (refl, refl, refl) r) done;
       outside = λ past. absurd (omega arith);
@@ -101,7 +101,7 @@ module _ {S C T : Type 0} (acts : Handled C T → Made S) (plays : Playing C T) 
     λ lt. (h, handles, made),
     λ past. absurd (omega arith),
   ) where
-    all : (r : Answer) → WasHeld r → Held found ∷ drop 1 (program r 0 noted woke) ≡ program r found noted woke
+    all : (r : Answer) → WasHeld r → Held found ∷ drop 1 (turn_exchanges r 0 noted woke) ≡ turn_exchanges r found noted woke
     all (Ok worked.Busy) held = absurd held
     all _ held = refl
 
@@ -134,7 +134,7 @@ posted_quiet slot posted.Wake is holds change = absurd (false≢true (sym change
 posted_quiet slot posted.Quiet is holds change = change
 posted_quiet slot posted.Worn is holds change = absurd (grind arith)
 
-lets_go : (r : Answer) (found noted : ℕ) (woke : Bool) (a : Account) → a.holds ≡ false → (after_all (program r found noted woke) a).holds ≡ false
+lets_go : (r : Answer) (found noted : ℕ) (woke : Bool) (a : Account) → a.holds ≡ false → (after_all (turn_exchanges r found noted woke) a).holds ≡ false
 lets_go (Ok worked.Busy) found noted woke a none = none
 lets_go _ found noted woke a none = refl
 

@@ -19,13 +19,13 @@ WasHeld result = Unit {0}
 
 -- The exchanges of a turn at its slot, by its answer: its claim found `found` notes, its take `noted`, and its release
 -- answered Wake if `woke`. A post that finds the seat worn makes no exchange
-abbrev pub program : Result Worked ServerFault → ℕ → ℕ → Bool → List Exchange
-program (Ok worked.Busy) found noted woke = Busy ∷ []
-program (Ok worked.Gone) found noted woke = Held found ∷ Take noted ∷ Release woke ∷ []
-program (Ok worked.Quiet) found noted woke = Held found ∷ Take noted ∷ Release woke ∷ []
-program (Ok worked.Again) found noted woke = Held found ∷ Take noted ∷ Post false ∷ Release true ∷ []
-program (Ok worked.Ended) found noted woke = Held found ∷ Take noted ∷ Retire ∷ []
-program (Err fault) found noted woke = Held found ∷ Take noted ∷ Release woke ∷ []
+abbrev pub turn_exchanges : Result Worked ServerFault → ℕ → ℕ → Bool → List Exchange
+turn_exchanges (Ok worked.Busy) found noted woke = Busy ∷ []
+turn_exchanges (Ok worked.Gone) found noted woke = Held found ∷ Take noted ∷ Release woke ∷ []
+turn_exchanges (Ok worked.Quiet) found noted woke = Held found ∷ Take noted ∷ Release woke ∷ []
+turn_exchanges (Ok worked.Again) found noted woke = Held found ∷ Take noted ∷ Post false ∷ Release true ∷ []
+turn_exchanges (Ok worked.Ended) found noted woke = Held found ∷ Take noted ∷ Retire ∷ []
+turn_exchanges (Err fault) found noted woke = Held found ∷ Take noted ∷ Release woke ∷ []
 
 -- The acts of a turn, in order, by its answer and the ticket's generation. `other`: another connection
 -- was in the place. `woke`: the release answered Wake
@@ -92,7 +92,7 @@ module _ {S : Type 0} (made : Made S) (ticket : Ticket) where
       pub woke : Bool
       pub held : WasHeld result
       pub refused : IfErr result (λ fault. OnlyWorn fault new.seat)
-      pub done : TurnDone ticket (drop exchanged (program result 0 noted woke)) result old new
+      pub done : TurnDone ticket (drop exchanged (turn_exchanges result 0 noted woke)) result old new
       pub acts : ActsLeft acted other woke from to
 
 -- the exchanges of a turn with a ticket of this slot: if the claim words lack the slot, none, and the answer is Gone
@@ -100,7 +100,7 @@ pub record IsTurnOf (words slot : ℕ) (result : Result Worked ServerFault) (exc
   pub found : ℕ
   pub noted : ℕ
   pub woke : Bool
-  pub inside : slot < words → exchanges ≡ program result found noted woke
+  pub inside : slot < words → exchanges ≡ turn_exchanges result found noted woke
   pub outside : words ≤ slot → (exchanges ≡ []) × (result ≡ Ok worked.Gone)
 
 -- what a turn does to what its thread owns
