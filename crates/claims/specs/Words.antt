@@ -36,8 +36,7 @@ some_wait (suc n) = true
 abbrev pub wakes : WordState → Bool
 wakes w = if w.held then false else (if some_wait w.pending then false else true)
 
--- post adds a note, claim sets `held` and release clears it, take clears the notes, retire sets `free` and adopt clears
--- it
+-- post adds a note, claim sets `held` and release clears it, take clears the notes, retire sets `free` and adopt clears it
 abbrev pub word_after : StepKind → WordState → WordState
 word_after post w = record w { pending = suc w.pending }
 word_after claim w = record w { held = true }

@@ -1,10 +1,10 @@
 // What fronts and wires over sockets answer, on loopback.
 use crate::all_well;
-use common::{Front, Settle, Unopened, Waiting};
 use engine::Wire;
 use log::sink::{Discard, Lines, Memory};
 use log::{Level, Log, Logged};
 use settings::parse;
+use shared::{Front, Settle, Unopened, Waiting};
 use sizes::{MAX_BATCH, ServerFault, Split};
 use sockets::{Bound, Forwarding, Patience, SocketWire, Sockets, Stop, bind, open_all};
 use std::alloc::{AllocError, Global};

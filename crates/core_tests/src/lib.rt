@@ -13,13 +13,13 @@ mod losing;
 #[cfg(test)]
 mod messages;
 #[cfg(test)]
-mod queues;
-#[cfg(test)]
 mod replays;
 #[cfg(test)]
 mod session;
 #[cfg(test)]
 mod streams;
+#[cfg(test)]
+mod tickets;
 #[cfg(test)]
 mod values;
 #[cfg(test)]

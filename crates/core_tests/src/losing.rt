@@ -1,8 +1,8 @@
 // What a recording lacks once a queue of its records is full, as it is in no run for sure.
 use crate::all_well;
 use log::Log;
-use recording::{MAX_RECORDS, QueueSink, RecordQueue, Sink, write_records};
-use records::{Act, Header, Parts, Polling, Record};
+use record_lines::{Act, Header, Parts, Polling, Record};
+use recorder::{MAX_RECORDS, QueueSink, RecordQueue, Sink, write_records};
 use sizes::Split;
 use statistics::Statistics;
 use std::cell::Cell;

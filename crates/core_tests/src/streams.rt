@@ -1,10 +1,10 @@
 // How a script ends whose reader or writer fails, at a point that the test picks.
 use crate::all_well;
-use input::{Causes, Outcome, ScriptFault, Simulate};
 use script::Simulator;
 use std::alloc::{AllocError, Global};
 use std::io::{self, ErrorKind, Read, Write};
 use std::test::Fail;
+use tools::{Causes, Outcome, ScriptFault, Simulate};
 
 /// How many bytes a run may write. A test allocates them before the run.
 const ROOM: usize = 4096;

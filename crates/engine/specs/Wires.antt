@@ -2,8 +2,7 @@
 use Rattle.std.specs.{Prelude.{ℕ, List, ◌≡◌, ◌⊎◌, ◌+◌, ◌%◌, ◌^◌, ◌≤◌, [], length, take, MatchResult, Option, None, Result, Ok, Err, ◌∷◌, ◌++◌}, declared.io.{ErrorKind.ErrorKind, Error.Error}, IoError.error_kind, Io.KnownBytes.{Consumes, Keeps}}
 use Rattle.engine.specs.declared.scripted.Play.{Play, TheVariants.Bytes}
 
--- a read of at most this many bytes, a write that offers these, the question whether connect(2) has completed, or a
--- shutdown
+-- a read of at most this many bytes, a write that offers these, the question whether connect(2) has completed, or a shutdown
 pub data Asked : Type 0 where
   Read : ℕ → Asked
   Write : List ℕ → Asked

@@ -1,10 +1,6 @@
 -- How a text is cut into pieces, and which texts are numbers.
 use Rattle.std.specs.{Prelude.{◌≡◌, ℕ, ◌+◌, ◌<◌, ◌≤◌, List, ◌++◌, length, Option, ◌-◌, ◌*◌, ◌^◌, ◌==◌, nat_lt, nat_le, Bool, true, false, not, ◌&&◌, if◌then◌else◌, [], ◌∷◌, fold, Some, None}, Io.KnownBytes.{Consumes, IsAtEnd}, List.{slice_split, list_all}}
 
--- the most bytes of a script
-abbrev pub most_of_script : ℕ
-most_of_script = 1048576
-
 -- What reads take from a reader whose bytes are known. `ReadsOn` and `Stops` are for proofs alone.
 
 -- the reads took at most `most` bytes

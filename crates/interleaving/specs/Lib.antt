@@ -4,4 +4,4 @@ pub mod Likeness
 pub mod Rest
 pub mod Slots
 pub mod Whole
-pub mod Wires
+pub mod Late

@@ -153,9 +153,8 @@ pub record Settled (st : System) (p : SlotState) (workers : List WorkerState) : 
 abbrev pub taken_word : ℕ → WordState
 taken_word notes = record { pending = notes; free = false; held = true }
 
--- How far the poller's thread t is with the opening of c, by the word, the place, the table's entry and the rest of
--- its program. Each name says what t has done last: Entered that the entry is made, Emptied that the old notes are
--- gone
+-- How far the poller's thread t is with the opening of c, by the word, the place, the table's entry and the rest of its
+-- program. Each name says what t has done last: Entered that the entry is made, Emptied that the old notes are gone
 pub data Stage (word : WordState) (place : Option Connection) (entry : ℕ) (t : Thread) (c : Connection) : List Act → Type 0 where
   Registered : (notes : ℕ) → word ≡ record { pending = notes; free = true; held = true } → place ≡ None → t.out ≡ Some c
       → Stage word place entry t c (drop 1 open_slot)

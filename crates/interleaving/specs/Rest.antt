@@ -8,8 +8,7 @@ use Rattle.kernel_model.specs.{declared.{reply.Reply.Reply, accepting.Accepting.
 use Rattle.relay_core.specs.{declared.flags.Flags.Flags, Pairs.{PairState, stream_of, is_joined, fresh}, Order.is_drained}
 use Rattle.claims.specs.Words.{some_wait, one}
 use Rattle.world.specs.{declared.{connection.Connection.Connection, limits.Limits.Limits}, Due.{due, movable}, Leads.LeadTable, Support.total}
-use Rattle.interleaving.specs.Likeness.{IsARun}
-use Rattle.interleaving.specs.Threads.{Act, TakeNotes, Call, Post, Release, Register, open_slot, System, Thread, Step, Accept, Drop, Poll, Deliver, Open, Begin, Acts, Calls, start, step, run}
+use Rattle.interleaving.specs.{Likeness.IsARun, Threads.{Act, TakeNotes, Call, Post, Release, Register, open_slot, System, Thread, Step, Accept, Drop, Poll, Deliver, Open, Begin, Acts, Calls, start, step, run}}
 use Rattle.kernel_model.specs.declared.reply.Reply.TheVariants as reply
 
 -- The relay's own steps
@@ -148,8 +147,7 @@ client_weight l = 2 + (total act_weight open_slot + (pair_weight (fresh 0 0 l.ri
 abbrev pub kernel_weight : Limits → KernelState → ℕ
 kernel_weight l k = total socket_weight k.ends + ((2 + post_weight) * length k.queue + (1 + client_weight l) * k.backlog)
 
--- a name in the batch is delivered, which posts, or raises the accept flag; that flag is up for one accept(2) that would
--- block
+-- a name in the batch is delivered, which posts, or raises the accept flag; that flag is up for one accept(2) that would block
 abbrev pub poller_weight : System → ℕ
 poller_weight st = (1 + post_weight) * length st.batch + (one st.flag + client_weight st.limits * one st.accepted)
 

@@ -7,14 +7,14 @@ use Rattle.kernel_model.specs.{declared.{reply.Reply.Reply, watched.Watched.Watc
 use Rattle.relay_core.specs.{Pairs.{PairState, fresh, noted, verdict, is_live}, Order.next_call, Idle.expired}
 use Rattle.claims.specs.Words.{WordState, word_after, wakes, some_wait}
 use Rattle.world.specs.{declared.{connection.Connection.Connection, limits.Limits.Limits, past.Past.Past, event.{Change.Change, Reported.Reported}}, Calls.{when, OpenConnection, descriptor, called}, Leads.lead_at, Steps.{change_at, token_of, is_worn}}
-pub use Rattle.common.specs.Acts.{Act, Claim, TakeOut, TakeNotes, Call, Play, PutIn, Post, Release, Close, Retire, Give, Register, Adopt, Enter, Discard, Settle, PutTicket}
-use Rattle.common.specs.Acts.{busy_turn, gone_turn, quiet_turn, again_turn, ended_turn}
+pub use Rattle.shared.specs.Acts.{Act, Claim, TakeOut, TakeNotes, Call, Play, PutIn, Post, Release, Close, Retire, Give, Register, Adopt, Enter, Discard, Settle, PutTicket}
+use Rattle.shared.specs.Acts.{busy_turn, gone_turn, quiet_turn, again_turn, ended_turn}
 use Rattle.token.specs.declared.name.Name.TheVariants as name
 use Rattle.kernel_model.specs.declared.watched.Watched.TheVariants as watched
 use Rattle.kernel_model.specs.Kernel as kernel
 use Rattle.claims.specs.Words as word
 use Rattle.world.specs.declared.event.Reported.TheVariants as reported
-use Rattle.common.specs.Acts as server
+use Rattle.shared.specs.Acts as server
 
 -- Programs
 
@@ -74,12 +74,11 @@ pub record Thread : Type 0 where
   pub left : ℕ
   pub todo : List Act
 
--- `second` is how many seconds have passed, and `kernel` has the sockets. The poller has the accept flag (`flag`),
--- perhaps a client that was `accepted`, the rest of its `batch`, and the slot's `entry` in its table. `ends` are the
--- sockets of the slot's connection, `word` is the slot's word, and `place` the connection in its place. `tickets` are
--- the generations of the slot's tickets in the ready queue and in hands, oldest first. `free` is how often the slot is
--- in the queue of free slots or in the poller's hand. The first of the `threads` is the poller's. `past` has the
--- closed connections, in order
+-- `second` is how many seconds have passed, and `kernel` has the sockets. The poller has the accept flag (`flag`), perhaps a
+-- client that was `accepted`, the rest of its `batch`, and the slot's `entry` in its table. `ends` are the sockets of the
+-- slot's connection, `word` is the slot's word, and `place` the connection in its place. `tickets` are the generations of the
+-- slot's tickets in the ready queue and in hands, oldest first. `free` is how often the slot is in the queue of free slots or
+-- in the poller's hand. The first of the `threads` is the poller's. `past` has the closed connections, in order
 pub record System : Type 0 where
   pub limits : Limits
   pub second : ℕ

@@ -1,6 +1,6 @@
 //! What holds for every interleaving. The functions do nothing: the contract of each is the law that it is named after.
 ghost use Rattle.world.specs.CoreLaws.{CoreLaws};
-ghost use Rattle.interleaving.specs.{Likeness.{EveryInterleavingIsARun, EveryStepIsFollowed}, Rest.{LeftAloneItEnds, LeftAloneItRests}, Slots.SlotsStandApart, Threads.ProgramsAreThese, Whole.LeftAloneServersEnd, Wires.WiresComeLate};
+ghost use Rattle.interleaving.specs.{Likeness.{EveryInterleavingIsARun, EveryStepIsFollowed}, Rest.{LeftAloneItEnds, LeftAloneItRests}, Slots.SlotsStandApart, Threads.ProgramsAreThese, Whole.LeftAloneServersEnd, Late.WiresComeLate};
 
 use relay_core::laws;
 
@@ -80,7 +80,7 @@ pub fn left_alone_servers_end()
 /// on to it. What comes meanwhile is late in the other run: it comes just before the wire hears of it or is given an
 /// error, or before the sockets are closed. So acts, calls with their replies, and the exchanges of the slot's word are
 /// the same, in order (`happened`). And no wire misses anything: what is late, or will come, is reported to it.
-#[tactic(auto, using(crate::proofs::Wires::wires_come_late))]
+#[tactic(auto, using(crate::proofs::Late::wires_come_late))]
 pub fn wires_come_late()
     ensures { WiresComeLate }
 {

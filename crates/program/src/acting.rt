@@ -12,7 +12,6 @@ use crate::streams::{LoggedCauses, log_error, stream_named, write};
 use clap::Error;
 use clap::error::ErrorKind;
 use commands::{Command, Relay, print_answer, print_refused, read_command};
-use input::{Outcome, Replay, Simulate};
 use log::{LevelFilter, Log};
 use settings::Settings;
 use sizes::ServerFault;
@@ -22,6 +21,7 @@ use std::io::{Eprint, IsTerminal, Read, Write};
 use std::net::Net;
 use std::os::fd::AsRawFd;
 use std::rt::Files;
+use tools::{Outcome, Replay, Simulate};
 
 /// How many arguments are looked at for one that is not UTF-8.
 const MOST_ARGUMENTS: usize = 1_000;

@@ -17,8 +17,7 @@ pub struct Extras {
     pub stats: Option<u32>,
     /// The relay opens no more connections once standard input has ended.
     pub until_eof: bool,
-    /// How long the relay waits for a peer that does not answer: up to 3,600 seconds to connect, and 32,767 of
-    /// silence.
+    /// How long the relay waits for a peer that does not answer: up to 3,600 seconds to connect, and 32,767 of silence.
     pub patience: Patience,
     /// The log has each client at level info, as it comes and as it goes.
     pub log_clients: bool,
@@ -87,8 +86,7 @@ impl fmt::Display for NumberOption {
     }
 }
 
-/// The options. Refuses, and logs the cause, if a value is no whole number, or one that is
-/// not in its option's range.
+/// The options. Refuses, and logs the cause, if a value is no whole number, or one that is not in its option's range.
 pub(crate) fn extras_of(log: &impl Log, typed: TypedExtras<'_>) -> Result<Extras, ProgramFault>
     ensures stats { IfOk result (λ extras. IfSome extras.stats (λ n. (1 ≤ n) × (n ≤ 86400))) }
     ensures connect { IfOk result (λ extras. IfSome extras.patience.connect (λ n. (1 ≤ n) × (n ≤ 3600))) }

@@ -2,12 +2,12 @@ ghost use Rattle.std.specs.{Prelude.◌≡◌, IoError.error_kind};
 ghost use Rattle.program.specs.{Faults.{settings_fault, argument_fault, status_of, arguments_fault}, declared.faults.{ConfigFault.TheVariants.NoMemory, ProgramFault.TheVariants.Config}};
 
 use crate::extras::NumberOption;
-use input::{ReplayFault, ScriptFault};
 use settings::SettingsFault;
 use sizes::ServerFault;
 use std::alloc::AllocError;
 use std::env::{self, Env};
 use std::{fmt, io};
+use tools::{ReplayFault, ScriptFault};
 
 /// The statuses after a command was carried out, after a fault, and after a usage error.
 pub(crate) const DONE: u8 = 0;

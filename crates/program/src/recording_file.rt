@@ -8,7 +8,7 @@ use crate::streams::{FileName, Unopened, log_error, log_text};
 use libc::net as system;
 use libc::types::pollfd;
 use log::{Level, Log};
-use records::Parts;
+use record_lines::Parts;
 use settings::EndOfLine;
 use std::alloc::{AllocError, Global};
 use std::fs::{self, File, Metadata, OpenFile, OpenOptions};

@@ -5,12 +5,12 @@ use crate::faults::{DONE, FAULT, ProgramFault};
 use crate::recording_file::{FIRST_WORDS, first_bytes};
 use crate::streams::{FileName, Stream, Unopened, log_error, log_text, stream_named};
 use commands::Replayed;
-use input::{Judged, MAX_SCRIPT, Replay, ReplayFault, Wanted};
 use log::{Level, Log};
 use settings::{TypedWord, has_leading_zero};
 use std::fs::{self, File};
 use std::io::{self, Write};
 use std::rt::Files;
+use tools::{Judged, MAX_SCRIPT, Replay, ReplayFault, Wanted};
 
 /// Returns 0 if the recording in a file is of runs of the machine, and 1 if not. Logs what is wrong with the file.
 /// Refuses with `Connection` or `Timeline`, before any output, if `--script` or `--timeline` names no connection.

@@ -1,10 +1,10 @@
 //! What the log says of streams, of files and of scripts.
 
-use input::Causes;
 use log::{Level, Log, error, log};
 use settings::EndOfLine;
 use std::fmt;
 use std::io::{self, ErrorKind, Read, Write};
+use tools::Causes;
 
 /// A stream, such as standard input or a file. An error of the system is logged when it comes: the fault that follows
 /// does not include it.

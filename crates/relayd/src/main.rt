@@ -1,4 +1,4 @@
-//! The program: `program` says what it does, `server` serves, `replaying` plays recordings, `script` runs scripts.
+//! The program: `program` says what it does, `server` serves, `replay` plays recordings, `script` runs scripts.
 //! `main` passes to [`program::act`] the process's own arguments, streams and handle, a closure that serves, a player
 //! and a simulator.
 #![tactic(auto)]
@@ -7,7 +7,7 @@ mod lent;
 
 use program::logging::Errors;
 use program::{Beside, Given, report_unheld};
-use replaying::OnMachine;
+use replay::OnMachine;
 use script::Simulator;
 use server::ServerFault;
 use std::cell::Cell;

@@ -1,10 +1,10 @@
 -- Acts, one after the other, and the posts of a round, in a poller's own slots alone.
 use Rattle.std.{proofs.{Common.{◌≡◌, ℕ, zero, suc, ◌+◌, ◌≤◌, Bool, true, false, cond, List, [], ◌∷◌, ◌++◌, length, length-append, refl, sym, ◌∙◌, arith, inl, inr, append_assoc, ◌≢◌, ◌⊎◌, ◌↔◌, IsTrue, slice_index, replicate, slice_set, ◌==◌, ◌||◌, if◌then◌else◌, Option, Some, None}, lemmas.{Grind.flat_map-append, Bool.{eq-eqb, ne_eqb, false≢true, Decides.nat_tests}, List.{append-nil, map-append, map-id, length-map, length-replicate, get_or-replicate, get_or_past, get_or-set_other, Elements.{All-append, filter_map-append}, FromFn.{length-range_with_len, map-range_with_len_more}, Sums.sum_by-append}}}, specs.List.{All, cons_option, filter_map, range_with_len}}
 use Rattle.claims.{specs.{declared.view.Account.Account, Views.{after_all, minted_by}, Seats.{SeatState, trace_at, account_at, HoldsNothing, Adds}}, proofs.Seats.after_both}
-use Rattle.ready.specs.declared.ticket.Ticket.{Ticket}
+use Rattle.queues.specs.declared.ticket.Ticket.{Ticket}
 use Rattle.rounds.specs.{Acts.{SeatAct, exchanges_at, made_by, due_of, ActsMade, IsPost, ArePosts, opening, InOrder, IsTry, AreTries, at_slot, connection_reported, all_reported, ArePosted, is_due, last_in, opened_below, all_opened, sweep_of}, Pollers.{IsOwnTable, PollerState, AreGenerations}, Openings.AreIn}
 use Rattle.relay_core.specs.Idle.{is_past}
-use Rattle.common.specs.{Hands.{HandState, ticket_room}, Posts.IsWorn}
+use Rattle.shared.specs.{Hands.{HandState, ticket_room}, Posts.IsWorn}
 use Rattle.sizes.specs.{declared.split.Part.Part, Splits.IsIn}
 use mathlib.Core.Logic.{dite}
 use native.Mathlib.Decide.{ℕ_discrete}

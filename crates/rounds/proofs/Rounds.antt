@@ -1,17 +1,15 @@
 -- Connections that are opened one after the other, why one is closed unopened, and a round of its parts.
-use Rattle.std.proofs.{Common.{◌≡◌, ◌≢◌, ◌⊎◌, ℕ, ◌+◌, ◌<◌, ◌≤◌, List, [], ◌∷◌, ◌++◌, length, drop, slice_get, slice_set, min, cond, Bool, true, refl, sym, ◌∙◌, arith, inl, inr, append_assoc, length-append, Option, Some, None, ◌==◌, Result, Ok, Err, IfErr, IfOk, IfSome, MatchResult, slice_index, ap, ◌↔◌, IsTrue, false, Contains, if◌then◌else◌}, lemmas.{Bool.false≢true, List.{append-nil, length-set, get_or-set_other, get_or_past, Sums.sum_by-append}, Grind.get_or-set_at, Option.{none-some, same_Some}}}
-use Rattle.std.specs.Prelude.{IsErr}
+use Rattle.std.{proofs.{Common.{◌≡◌, ◌≢◌, ◌⊎◌, ℕ, ◌+◌, ◌<◌, ◌≤◌, List, [], ◌∷◌, ◌++◌, length, drop, slice_get, slice_set, min, cond, Bool, true, refl, sym, ◌∙◌, arith, inl, inr, append_assoc, length-append, Option, Some, None, ◌==◌, Result, Ok, Err, IfErr, IfOk, IfSome, MatchResult, slice_index, ap, ◌↔◌, IsTrue, false, Contains, if◌then◌else◌}, lemmas.{Bool.false≢true, List.{append-nil, length-set, get_or-set_other, get_or_past, Sums.sum_by-append}, Grind.get_or-set_at, Option.{none-some, same_Some}}}, specs.Prelude.IsErr}
 use Rattle.claims.{specs.{declared.answers.Posted.Posted, Calls.PostChange, Seats.{SeatState, TableId, Adds, account_at}, declared.view.{Account.Account, Exchange.Exchange}, Views.after_all}, proofs.Seats.{account_after, adds_both, adds_none}}
-use Rattle.common.{specs.{Posts.{HoldsOnly, IsWorn, OnlyWorn}, declared.{places.Berth.Berth, shared.Own.Own, front.{Unaccepted.{Unaccepted, TheVariants.{Again, Blocked, Starved}}, Unopened.Unopened, Route.Route, Waiting.{Waiting, TheVariants.{No, Brief, Long}}}}, Hands.{HandState, ticket_room}, Acts.Made, Told.{cause_of, Seen, Waited}}, proofs.Holding.{holds_still, woke_behind_post, worn_still}}
-use Rattle.sizes.specs.{declared.split.Part.Part, Splits.IsIn}
-use Rattle.ready.specs.declared.ticket.Ticket.{Ticket}
+use Rattle.shared.{specs.{Posts.{HoldsOnly, IsWorn, OnlyWorn}, declared.{places.Berth.Berth, shared.Own.Own, front.{Unaccepted.{Unaccepted, TheVariants.{Again, Blocked, Starved}}, Unopened.Unopened, Route.Route, Waiting.{Waiting, TheVariants.{No, Brief, Long}}}}, Hands.{HandState, ticket_room}, Acts.Made, Told.{cause_of, Seen, Waited}}, proofs.Holding.{holds_still, woke_behind_post, worn_still}}
+use Rattle.sizes.specs.{declared.{split.Part.Part, cause.Cause.Cause, faults.ServerFault.{ServerFault, TheVariants.{Poll, Worn}}}, Splits.IsIn}
+use Rattle.queues.specs.declared.ticket.Ticket.{Ticket}
 use Rattle.relay_core.specs.Pairs.{PairState}
 use Rattle.rounds.{specs.{declared.episodes.Episodes.Episodes, Acts.{SeatAct, opening, ActsMade, AreTries, InOrder, all_reported, ArePosted, sweep_of}, Openings.{times, with_slot, AreOpened, OnlyTook, SlotsCounted, Between, Started, Connected, OnlyAccepted, unmarked, IsOpened, IsSpent, AreLost, IsNext, SameQueues, Fate, FateKept, LeadGiven, RegisteredFirst, next_in, Opened, Dropped, Spent, NotFree, DropsFor, ActsOf, DropMade, TriesMade, TriesNext, lacks, lead_of}, Pollers.{PollerState, HasRisen, counted_up, HasOpenedAll}, Episodes.{flag_after, starved_after}, Rounds.{AcceptEnded, AllPosted, RoundInOrder, ListenerKept, ListensNoMore, ListensToOpen, Looked, OnlyAnswered, OnlyListens, RoundRefused, MayNotWait, WaitedAsMay, WaitsAsMay}}, proofs.Acts.{at_slot-append, acts_none, acts_one, acts_both, in_order, none_at, try_dropped, try_opened, tries_none, tries_both, holds_nothing_still, posted_none, posts_still, no_sweep}}
-use Rattle.sizes.specs.declared.{cause.Cause.{Cause}, faults.ServerFault.{ServerFault, TheVariants.{Poll, Worn}}}
 use Rattle.claims.specs.declared.view.Exchange.TheVariants as exchange
 use Rattle.claims.specs.declared.answers.Posted.TheVariants as posted
 use Rattle.sizes.specs.declared.cause.Cause.TheVariants as cause
-use Rattle.common.specs.declared.front.Unopened.TheVariants as unopened
+use Rattle.shared.specs.declared.front.Unopened.TheVariants as unopened
 
 -- counts
 

@@ -1,10 +1,10 @@
 -- What a thread's seat did, act by act, and what a round posts, also by its acts.
 use Rattle.std.specs.{Prelude.{◌≡◌, ◌⊎◌, ℕ, zero, suc, ◌==◌, nat_lt, Bool, true, false, if◌then◌else◌, List, [], ◌∷◌, ◌++◌, length, map, Option, Some, None, slice_index}, List.{All, filter_map, flat_map, count_by, range_with_len}}
 use Rattle.claims.specs.{declared.view.Exchange.{Exchange, TheVariants.{Post, Take, Release, Adopted, NotFree}}, Views.minted_by, Seats.{SeatState, trace_at}}
-use Rattle.ready.specs.declared.ticket.Ticket.{Ticket}
+use Rattle.queues.specs.declared.ticket.Ticket.{Ticket}
 use Rattle.token.specs.{declared.name.Name.{Name, TheVariants.{End}}, Numbers.name_of}
 use Rattle.relay_core.specs.Idle.{is_past}
-use Rattle.common.specs.{Acts.{Made, Post as PostAct}, Hands.HandState, Posts.IsWorn}
+use Rattle.shared.specs.{Acts.{Made, Post as PostAct}, Hands.HandState, Posts.IsWorn}
 use Rattle.rounds.specs.Pollers.{PollerState}
 
 -- exchanges of a seat at the slot of a ticket

@@ -2,7 +2,7 @@
 use Rattle.std.specs.Prelude.{◌≡◌, ℕ, ◌+◌, ◌==◌, ◌||◌, nat_lt, Bool, true, false, List, Option, Some, None, if◌then◌else◌}
 use Rattle.sizes.specs.declared.cause.Cause.{Cause}
 use Rattle.relay_log.specs.Messages.{drop_message, drops_message}
-use Rattle.common.specs.declared.front.Unaccepted.{Unaccepted, TheVariants.{Again, Blocked, Starved}}
+use Rattle.shared.specs.declared.front.Unaccepted.{Unaccepted, TheVariants.{Again, Blocked, Starved}}
 use Rattle.rounds.specs.{Pollers.counted_up, declared.{episodes.{Episodes.Episodes, Tally.Tally, Drops.Drops}, dropping.Owed.Owed}}
 use Rattle.sizes.specs.declared.cause.Cause.TheVariants as cause
 

@@ -1,22 +1,21 @@
 -- What accepting and opening connections does to what the poller's thread owns.
 use Rattle.std.specs.{Prelude.{◌≡◌, ◌⊎◌, ℕ, ◌+◌, ◌<◌, ◌≤◌, ◌==◌, Bool, true, false, List, [], ◌∷◌, ◌++◌, length, drop, map, Option, Some, None, Result, Ok, Err, replicate, slice_index, slice_set}, List.count_by, declared.net.socket_addr.SocketAddrV4.SocketAddrV4, Net.{Addr.ipv4_octets, Socket.{v4_ip, v4_port}}}
 use Rattle.claims.specs.{declared.view.Exchange.Exchange, Seats.{TableId, Adds, HoldsNothing}}
-use Rattle.ready.specs.declared.ticket.Ticket.{Ticket}
-use Rattle.common.specs.{declared.{shared.Own.Own, places.Berth.Berth, front.{Unopened.Unopened, Route.Route}}, Hands.ticket_room, Told.Seen}
-use Rattle.sizes.specs.{declared.split.Part.Part, Splits.IsIn}
+use Rattle.queues.specs.declared.ticket.Ticket.{Ticket}
+use Rattle.shared.specs.{declared.{shared.Own.Own, places.Berth.Berth, front.{Unopened.Unopened, Route.Route}}, Hands.ticket_room, Told.Seen}
+use Rattle.sizes.specs.{declared.{split.Part.Part, cause.Cause.Cause}, Splits.IsIn}
 use Rattle.token.specs.Names.{EndName, last_generation}
 use Rattle.rounds.specs.{Pollers.{PollerState, HasRisen, counted_up}, Acts.{SeatAct, due_of, opening, ActsMade, AreTries, InOrder, at_slot}, Episodes.{dropped_for, no_episodes, opened_after}, declared.opening.Opening.Opening}
 use Rattle.log.specs.declared.level.Level.{Level}
 use Rattle.statistics.specs.declared.event.Event.{Event}
-use Rattle.sizes.specs.declared.cause.Cause.{Cause}
 use Rattle.relay_log.specs.Messages.{open_message}
 use Rattle.relay_core.specs.{Pairs.fresh, Proxy.proxy_line}
 use Rattle.claims.specs.declared.view.Exchange.TheVariants as exchange
-use Rattle.common.specs.Acts as act
+use Rattle.shared.specs.Acts as act
 use Rattle.log.specs.declared.level.Level.TheVariants as level
 use Rattle.statistics.specs.declared.event.Event.TheVariants as event
 use Rattle.sizes.specs.declared.cause.Cause.TheVariants as cause
-use Rattle.common.specs.declared.front.Unopened.TheVariants as unopened
+use Rattle.shared.specs.declared.front.Unopened.TheVariants as unopened
 
 -- Between two steps of a round the poller's thread holds no slot of these claim words, and its table has a generation
 -- for each slot

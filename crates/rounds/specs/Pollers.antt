@@ -1,7 +1,7 @@
 -- What the poller keeps between its rounds, and the numbers of a round that clauses name.
 use Rattle.std.specs.Prelude.{◌≡◌, ◌⊎◌, ℕ, ◌+◌, ◌≤◌, min, Bool, List, All, slice_index}
 use Rattle.rounds.specs.declared.{episodes.Episodes.Episodes, opening.Opening.Opening}
-use Rattle.common.specs.Told.{Seen}
+use Rattle.shared.specs.Told.{Seen}
 use Rattle.sizes.specs.{declared.split.Part.Part, Splits.IsIn}
 use Rattle.token.specs.Names.{last_generation}
 

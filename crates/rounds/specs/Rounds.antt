@@ -1,13 +1,12 @@
 -- What a round of the poller does. Of four states the first two are the poller's, before and after, and the last two
 -- what its thread owns.
 use Rattle.std.specs.Prelude.{◌≡◌, ◌≢◌, ◌⊎◌, ℕ, ◌+◌, ◌<◌, ◌≤◌, true, false, List, [], ◌++◌, length, Contains}
-use Rattle.ready.specs.declared.ticket.Ticket.{Ticket}
-use Rattle.common.specs.{declared.{front.{Route.Route, Unaccepted.Unaccepted, Waiting.Waiting}, places.Berth.Berth, shared.Own.Own}, Acts.Made, Hands.ticket_room, Outgoing.tickets_out, Posts.{IsWorn, OnlyWorn}}
-use Rattle.sizes.specs.declared.split.Part.{Part}
+use Rattle.queues.specs.declared.ticket.Ticket.{Ticket}
+use Rattle.shared.specs.{declared.{front.{Route.Route, Unaccepted.Unaccepted, Waiting.Waiting}, places.Berth.Berth, shared.Own.Own}, Acts.Made, Hands.ticket_room, Outgoing.tickets_out, Posts.{IsWorn, OnlyWorn}}
+use Rattle.sizes.specs.declared.{split.Part.Part, faults.ServerFault.ServerFault}
 use Rattle.rounds.specs.{Acts.{SeatAct, due_of, ActsMade, ArePosts, AreTries, InOrder, PostsMade, all_reported, ArePosted, is_due, sweep_of, swept_after}, Openings.{AreIn, AreLost, AreOpened, OnlyTook, SameQueues, SlotsCounted, TriesMade, TriesNext, unmarked}, Pollers.{PollerState, HasOpenedAll, HasRisen, spare_room}, Episodes.AreLogged}
-use Rattle.sizes.specs.declared.faults.ServerFault.{ServerFault}
-use Rattle.common.specs.declared.front.Unaccepted.TheVariants as unaccepted
-use Rattle.common.specs.declared.front.Waiting.TheVariants as waiting
+use Rattle.shared.specs.declared.front.Unaccepted.TheVariants as unaccepted
+use Rattle.shared.specs.declared.front.Waiting.TheVariants as waiting
 use Rattle.sizes.specs.declared.faults.ServerFault.TheVariants as server_fault
 
 -- The reports of the batch were delivered: each that is for a connection was posted at its slot. Then came the posts of
@@ -155,8 +154,7 @@ WaitsAsMay waiting.Long limit p own = MayWaitLong limit p own
 WaitsAsMay waiting.Brief limit p own = MayWaitBriefly limit p own
 WaitsAsMay waiting.No limit p own = MayNotWait limit p own own
 
--- For how many milliseconds a round waited for reports, and why: for as long as its front ever waits, for one, or not at
--- all
+-- For how many milliseconds a round waited for reports, and why: for as long as its front ever waits, for one, or not at all
 abbrev pub WaitedAsMay : ℕ → PollerState → PollerState → Own → Own → Type 0
 WaitedAsMay limit old new had has =
     ((new.seen.waited ≡ old.seen.longest) × MayWaitLong limit old had)

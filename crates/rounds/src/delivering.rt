@@ -1,12 +1,12 @@
 //! The reports of one poll become notes at their slots.
 ghost use Rattle.std.specs.{Prelude.{◌≡◌, ◌-◌, ◌<◌, ◌≤◌, ◌↔◌, [], length, IsTrue, IfOk, IfSome, MatchResult, Contains}, List.cons_option};
 ghost use Rattle.claims.specs.Seats.{HoldsNothing};
-ghost use Rattle.common.specs.{Hands.ticket_room, Posts.{IsWorn, OnlyWorn}};
+ghost use Rattle.shared.specs.{Hands.ticket_room, Posts.{IsWorn, OnlyWorn}};
 ghost use Rattle.rounds.specs.Acts.{all_reported, connection_reported, ArePosted, PostsMade};
 
 use claims::{ClaimSeat, Claims, Posted};
-use common::{Acts, Hand};
-use ready::Ticket;
+use queues::Ticket;
+use shared::{Acts, Hand};
 use sizes::{LISTENER, ServerFault};
 use token::{Name, unpack};
 

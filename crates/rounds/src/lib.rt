@@ -4,7 +4,7 @@
 //! holds makes a ticket. An opening posts one note and makes one ticket ([`open`]). The target may first be sent a line
 //! with both addresses of the client's connection; if one of them is not known, the opening fails. Silent sockets
 //! report nothing, so once the idle limit has passed, a round posts a note at each slot that was used: its sweep. What
-//! a round is lent is in `common`; what becomes of the tickets is in `turns`.
+//! a round is lent is in `shared`; what becomes of the tickets is in `turns`.
 //!
 //! # Inside
 //!
@@ -26,6 +26,7 @@ mod delivering;
 mod dropping;
 mod episodes;
 mod opening;
+mod placing;
 mod poller;
 mod round;
 mod sweeping;

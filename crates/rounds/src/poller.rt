@@ -1,17 +1,17 @@
 //! What a poller keeps between its rounds.
 ghost use Rattle.std.specs.{Prelude.{◌≡◌, ◌||◌, if◌then◌else◌, ◌-◌, ◌<◌, ◌≤◌, ◌↔◌, [], length, IfOk, IfErr, OnOk, OnErr, IsTrue, Contains, slice_set, true, false}, IoError.error_kind};
 ghost use Rattle.token.specs.Names.{last_generation};
-ghost use Rattle.common.specs.Told.{unaccepted_of};
+ghost use Rattle.shared.specs.Told.{unaccepted_of};
 ghost use Rattle.sizes.specs.Splits.{IsIn};
 ghost use Rattle.rounds.specs.{Episodes.{all_logged_at, opened_after, AreLogged}, Openings.{fresh_poller, DropLogged}, Pollers.{AreGenerations, IsOwnTable, HasOpenedAll, counted_up, max_accepts}};
-ghost use Rattle.common.specs.Acts as act;
+ghost use Rattle.shared.specs.Acts as act;
 
 use crate::dropping::Dropped;
 use crate::episodes::Episodes;
 use crate::opening::Opening;
-use common::{Acts, Counting, Front, HeavyMarks, Shared};
-use ready::Ticket;
+use queues::Ticket;
 use relay_log::Logs;
+use shared::{Acts, Counting, Front, HeavyMarks, Shared};
 use sizes::{Cause, MAX_ACCEPTS, MAX_BATCH, Part};
 use statistics::Event;
 use std::alloc::{AllocError, Global};

@@ -1,20 +1,20 @@
 //! A round of the poller.
 ghost use Rattle.std.specs.{Prelude.{◌≡◌, ◌⊎◌, ◌+◌, ◌-◌, ◌<◌, ◌≤◌, ◌↔◌, List, [], length, Err, IsOk, IfErr, IsSome, IsTrue, MatchResult, OnErr, OnOk, Contains, true, false}, IoError.error_kind, declared.io.ErrorKind.TheVariants.Interrupted};
 ghost use Rattle.rounds.specs.{Acts.{SeatAct, all_reported}, Episodes.{episodes_after, flag_after, starved_after}, Openings.{Between, Connected, OnlyTook, TriesMade}, Pollers.{HasOpenedAll, max_accepts, spare_room}, Rounds.{AcceptEnded, AllPosted, LacksRoom, IsFull, IsOver, ListensNoMore, ListensToOpen, Looked, LooksForAll, MayAccept, NoSlotInHand, NoneToAccept, NoRound, OnlyAnswered, OnlyListens, RoundEnded, RoundInOrder, RoundKeeps, RoundRefused, WaitedAsMay, WaitsAsMay}};
-ghost use Rattle.common.specs.{Hands.{HasRoom, ticket_room}, Posts.IsWorn, Told.{unaccepted_of, Waited}};
+ghost use Rattle.shared.specs.{Hands.{HasRoom, ticket_room}, Posts.IsWorn, Told.{unaccepted_of, Waited}};
 
 use crate::delivering::{deliver, refuse_worn};
 use crate::opening::open;
 use crate::poller::Poller;
 use crate::sweeping::{is_due, keep_time};
 use claims::Claims;
-use common::{
+use log::{Log, error};
+use queues::Empty;
+use relay_log::log_all_taken;
+use shared::{
     Acts, Clock, Counting, Front, Hand, Moves, Own, Shared, Timing, Unaccepted, Waiting,
     unaccepted_of,
 };
-use log::{Log, error};
-use ready::Empty;
-use relay_log::log_all_taken;
 use sizes::{LISTENER, MAX_ACCEPTS, MAX_BATCH, ServerFault};
 use std::alloc::Global;
 use std::io;

@@ -2,13 +2,13 @@
 ghost use Rattle.std.specs.Prelude.{◌≡◌, ◌<◌, ◌≤◌, [], if◌then◌else◌, length, IfSome};
 ghost use Rattle.claims.specs.Seats.{HoldsNothing};
 ghost use Rattle.rounds.specs.{Acts.{ArePosted, PostsMade, all_opened, is_due, last_in, sweep_of, swept_after}, Openings.Between, Rounds.AllPosted};
-ghost use Rattle.common.specs.Hands.{ticket_room};
+ghost use Rattle.shared.specs.Hands.{ticket_room};
 
 use crate::delivering::post_note;
 use crate::poller::Poller;
 use claims::{ClaimSeat, Claims};
-use common::{Acts, Clock, Front, Hand, Own, Shared, Timing};
-use ready::Ticket;
+use queues::Ticket;
+use shared::{Acts, Clock, Front, Hand, Own, Shared, Timing};
 
 /// Makes a sweep if one is due, and reads the second of the round. A sweep goes by the second of the last round, and
 /// its own round has asked for reports since then: so whatever came while the relay was stopped (SIGSTOP, a paused

@@ -3,8 +3,9 @@ use Rattle.std.{proofs.{Common.{◌≡◌, ℕ, List, [], ◌∷◌, Option, Som
 use Rattle.world.specs.{States.{State, opening}, Steps.step, Runs.run}
 use Rattle.script_text.specs.declared.steps.NumberedEvent.{NumberedEvent}
 use Rattle.world_text.specs.Words.{event_word}
-use Rattle.script.{specs.{Faults.{and_then, or_not_allowed, played, GivesDefined}, Plans.events_in, Runs.{line_happened, EveryRunIsSound, EveryRun, reached_by, error_line, LeadsTo, WritesReport, AnswersFault, WritesFault, EveryByte, EveryEnd}, declared.{fault.Fault.{Fault, TheVariants.{TooLong, NoMemory}}, script.{Script.Script, Reached.Reached}}, Scripts.{Plan, TakesMemory, parsed, said_by}}, proofs.Keeping.{keeps_bytes, keeps_end}}
-use Rattle.input.specs.{declared.simulate.{Outcome.{Outcome, TheVariants.{Report, Refused}}, ScriptFault.ScriptFault}, Texts.{TakesSome, most_of_script}}
+use Rattle.script.{specs.{Faults.{and_then, or_not_allowed, played, GivesDefined}, Plans.events_in, Runs.{line_happened, EveryRunIsSound, EveryRun, reached_by, error_line, LeadsTo, WritesReport, AnswersFault, WritesFault, EveryByte, EveryEnd}, declared.{fault.Fault.{Fault, TheVariants.{TooLong, NoMemory}}, script.{Script.Script, Reached.Reached}}, Scripts.{Plan, TakesMemory, parsed, said_by, most_of_script}}, proofs.Keeping.{keeps_bytes, keeps_end}}
+use Rattle.tools.specs.declared.simulate.{Outcome.{Outcome, TheVariants.{Report, Refused}}, ScriptFault.ScriptFault}
+use Rattle.input.specs.Texts.{TakesSome}
 
 -- The headline of every run, for the events of a script.
 

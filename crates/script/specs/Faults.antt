@@ -32,8 +32,7 @@ abbrev pub or_not_allowed : {X : Type 0} → ℕ → Word → Option X → Resul
 or_not_allowed line word (Some x) = Ok x
 or_not_allowed line word None = Err (NotAllowed line word)
 
--- Why a line is refused: it has the defined fault; or none is defined, and memory ran out for a line that may take
--- some.
+-- Why a line is refused: it has the defined fault; or none is defined, and memory ran out for a line that may take some.
 abbrev pub Refused : {X : Type 0} → Bool → Result X Fault → Fault → Type 0
 Refused takes (Ok x) fault = (fault ≡ NoMemory) × IsTrue takes
 Refused takes (Err defined) fault = fault ≡ defined

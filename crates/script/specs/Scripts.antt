@@ -3,9 +3,12 @@ use Rattle.std.specs.Prelude.{ℕ, List, map, ◌≡◌, ◌⊎◌, nat_lt, Bool
 use Rattle.world.specs.declared.limits.Limits.{Limits}
 use Rattle.script_text.specs.{declared.{steps.{NumberedStep.NumberedStep, NumberedEvent.NumberedEvent}, header.Header.Header}, Texts.{NumberedLine, lines_of, telling_lines}, Headers.header_of, Events.{step_of, Said, said_of, event_of}}
 use Rattle.script.specs.{declared.{fault.Fault.{Fault, TheVariants.{TooLong, NoWorld, Malformed}}, script.Script.Script}, Plans.FlowPlan, Faults.and_then}
-use Rattle.input.specs.Texts.{most_of_script}
 use Rattle.script_text.specs.declared.header.Header.TheVariants as header
 use Rattle.script.specs.declared.script.Script.TheVariants as script
+
+-- the most bytes of a script
+abbrev pub most_of_script : ℕ
+most_of_script = 1048576
 
 -- what was read from a line, or that the line is malformed
 abbrev pub or_malformed : {X : Type 0} → ℕ → Option X → Result X Fault

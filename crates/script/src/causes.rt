@@ -1,9 +1,10 @@
 use crate::machine::Machine;
 use crate::running::MAX_SHOWN;
 use crate::{Fault, Script, parse};
-use input::{Causes, MAX_SCRIPT, Pieces};
+use input::Pieces;
 use script_text::{Header, Line, Lines, NotRead, Wrong, read_event, read_header, read_step};
 use std::alloc::Global;
+use tools::{Causes, MAX_SCRIPT};
 use world_text::{Page, Piece};
 
 /// The commands that read no script are not in mind where a program without input starts relayd without a word.

@@ -1,15 +1,16 @@
 //! A run that shows each step.
 ghost use Rattle.std.specs.Prelude.{◌≡◌, ◌≢◌, ◌+◌, Err};
-ghost use Rattle.input.specs.Texts.{TakesAtMost, most_of_script};
+ghost use Rattle.input.specs.Texts.{TakesAtMost};
+ghost use Rattle.script.specs.Scripts.{most_of_script};
 
 use crate::causes::add_cause;
 use crate::machine::Machine;
 use crate::running::{answer_unread, tell_fault};
 use crate::{Fault, Script, parse};
-use input::{Causes, MAX_SCRIPT, Outcome, ScriptFault};
 use script_text::Lines;
 use std::alloc::{AllocError, Global};
 use std::io::{Read, Write};
+use tools::{Causes, MAX_SCRIPT, Outcome, ScriptFault};
 
 /// Does what [`run`](crate::run) does, but shows each step in place of the report at the end. For the header and then
 /// for each step, it writes the line of the script, as `> LINE`, and below it the lines that the report has after that

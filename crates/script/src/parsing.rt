@@ -3,11 +3,11 @@ ghost use Rattle.script_text.specs.{Headers.SizesFit, Events.{step_of, event_of}
 ghost use Rattle.script.specs.{Faults.GivesBy, Scripts.{BeginsWell, begins_well, reads_on, headed, parsed, plan_of, steps_of, events_of, said_by, said_lines, starts_with}};
 
 use crate::{Fault, FlowScript, Script, WorldScript};
-use input::MAX_SCRIPT;
 use script_text::{
     Header, Lines, NotRead, NumberedEvent, NumberedStep, read_event, read_header, read_step,
 };
 use std::alloc::Global;
+use tools::MAX_SCRIPT;
 
 /// The script that a text stands for, or its first fault: first that it is too long, then that no line says anything,
 /// then the first malformed line of the whole text. Or that memory ran out, but only for a text that begins with a

@@ -1,15 +1,16 @@
 ghost use Rattle.std.specs.{Prelude.{◌≡◌, ◌≢◌, ◌+◌, IfErr, IfSome, Ok, Err}, Io.KnownBytes.Appends};
-ghost use Rattle.script.specs.Runs.{error_line, LeadsTo, WritesReport, AnswersFault, WritesFault, EveryByte, EveryEnd, EveryRun, EveryRunIsSound, reached_report};
-ghost use Rattle.input.specs.Texts.{TakesAtMost, most_of_script};
+ghost use Rattle.script.specs.{Runs.{error_line, LeadsTo, WritesReport, AnswersFault, WritesFault, EveryByte, EveryEnd, EveryRun, EveryRunIsSound, reached_report}, Scripts.most_of_script};
+ghost use Rattle.input.specs.Texts.{TakesAtMost};
 
 use crate::causes::add_cause;
 use crate::{Fault, Reached, parse, run_each};
-use input::{Causes, InputFault, MAX_SCRIPT, Outcome, ScriptFault, Simulate};
+use input::InputFault;
 use relay_core::laws::{
     answers_keep_place, failures_are_told, live_pairs_rest, only_overdue_pairs_expire,
 };
 use std::alloc::Global;
 use std::io::{Read, Write};
+use tools::{Causes, MAX_SCRIPT, Outcome, ScriptFault, Simulate};
 use world::laws::every_run_holds;
 
 /// The most bytes of a word that are shown to a person.

@@ -17,8 +17,7 @@ use Rattle.kernel_model.specs.declared.accepting.Accepting.TheVariants as accept
 use Rattle.world.specs.declared.event.Reported.TheVariants as reported
 use Rattle.script_text.specs.declared.steps.Step.TheVariants as step
 
--- An event as a line says it. Two forms carry a list, of bytes or of names; any other form is an event of the machine
--- as it is.
+-- An event as a line says it. Two forms carry a list, of bytes or of names; any other form is an event of the machine as it is.
 pub data Said : Type 0 where
   Arrives : ℕ → Side → List ℕ → Said
   Polls : List Name → Said

@@ -1,8 +1,8 @@
 -- What a server begins with.
 use Rattle.std.specs.Prelude.{◌≡◌, ℕ, ◌+◌, List, [], ◌∷◌, replicate}
 use Rattle.claims.specs.Seats.{TableId, fresh_seat}
-use Rattle.ready.specs.Steps.{AreNew, EndState, opened, unused}
-use Rattle.common.specs.{declared.shared.Parts.Parts, Told.Seen}
+use Rattle.queues.specs.Steps.{AreNew, EndState, opened, unused}
+use Rattle.shared.specs.{declared.shared.Parts.Parts, Told.Seen}
 use Rattle.sizes.specs.{declared.split.Split.Split, Splits.{each_part, part_of, parts_of}}
 use Rattle.rounds.specs.{Openings.fresh_poller, Pollers.PollerState}
 use Rattle.server.specs.Limits.{share_of}

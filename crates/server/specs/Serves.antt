@@ -1,7 +1,7 @@
 -- What a server did that served, from its settings to the ends of its threads.
 use Rattle.std.specs.Prelude.{◌≡◌, ℕ, All, List, length}
 use Rattle.claims.specs.Seats.{TableId, fresh_seat}
-use Rattle.common.specs.{declared.front.Unaccepted.Unaccepted, Told.Seen}
+use Rattle.shared.specs.{declared.front.Unaccepted.Unaccepted, Told.Seen}
 use Rattle.sizes.specs.{declared.split.Split.Split, Pollers.pollers_for, Splits.parts_of}
 use Rattle.settings.specs.declared.fields.Settings.{Settings}
 use Rattle.sockets.specs.Fronts.{IsAt}

@@ -9,9 +9,9 @@
 mod making;
 mod serving;
 
-pub use common::{Clock, Gate};
 pub use making::{build, split_of};
 pub use serving::{Lent, System, serve, serve_recorded};
+pub use shared::{Clock, Gate};
 pub use sizes::ServerFault;
 pub use sockets::{Bound, Stop};
 pub use threads::Outcome;

@@ -1,17 +1,16 @@
 //! What a server is made of, before its threads run.
 ghost use Rattle.std.specs.Prelude.{◌≡◌, ◌↔◌, ◌+◌, ◌-◌, ◌<◌, ◌≤◌, ◌∷◌, length, replicate, map, IfOk, IfErr, IsTrue};
 ghost use Rattle.claims.specs.Seats.{fresh_seat};
-ghost use Rattle.ready.specs.Steps.{unused, opened as filled, AreNew};
+ghost use Rattle.queues.specs.Steps.{unused, opened as filled, AreNew};
 ghost use Rattle.server.specs.{Limits.{SharesLight, share_of}, Begins.{all_begun, begun, ThreadsBegin}};
-ghost use Rattle.sizes.specs.Splits.{each_part, parts_of};
+ghost use Rattle.sizes.specs.{Splits.{each_part, parts_of}, Pollers.pollers_for};
 ghost use Rattle.settings.specs.Calls.{calls_for};
-ghost use Rattle.sizes.specs.Pollers.{pollers_for};
 
 use claims::Claims;
-use common::{Front, Fullness, Parts, Places, Shared};
-use ready::{FreeQueue, ReadyQueue};
+use queues::{FreeQueue, ReadyQueue};
 use rounds::{Opening, Poller};
 use settings::{Settings, calls_for};
+use shared::{Front, Fullness, Parts, Places, Shared};
 use sizes::{ClientsAt, ServerFault, Split, pollers_for};
 use std::alloc::{AllocError, Global};
 use std::sync::Wait;

@@ -5,15 +5,15 @@ ghost use Rattle.settings.specs.Calls.{calls_for};
 ghost use Rattle.sizes.specs.{Pollers.{pollers_for}, Splits.{parts_of}};
 
 use crate::making::{build, split_of};
-use common::{Clock, Front, Gate, Timing};
 use log::Log;
 use os::set_thread_name;
-use recording::{
+use record_lines::{Header, Parts};
+use recorder::{
     QueueSink, RecordQueue, RecordedClock, RecordedGate, Recorder, record_all, write_records,
 };
-use records::{Header, Parts};
 use relay_log::log_no_thread;
 use settings::{Settings, calls_for};
+use shared::{Clock, Front, Gate, Timing};
 use sizes::{ClientsAt, ServerFault, Split};
 use sockets::{Bound, Dial, Forwarding, Patience, Stop, open_all};
 use statistics::Statistics;

@@ -1,5 +1,4 @@
--- Which slots are a poller's. All are dealt in parts of one size, one after the other, and the last part has what is
--- left.
+-- Which slots are a poller's. All are dealt in parts of one size, one after the other, and the last part has what is left.
 use Rattle.std.specs.{Prelude.{ℕ, ◌*◌, ◌+◌, ◌-◌, ◌/◌, ◌<◌, ◌≤◌, min, List, map}, List.range_with_len}
 use Rattle.sizes.specs.declared.split.Part.{Part}
 

@@ -18,8 +18,7 @@ impl Part {
     }
 }
 
-/// The slots of a server, dealt to its pollers in parts of one size, one after the other. The last part may be
-/// smaller.
+/// The slots of a server, dealt to its pollers in parts of one size, one after the other. The last part may be smaller.
 #[derive(Clone, Copy)]
 pub struct Split {
     slots: usize,

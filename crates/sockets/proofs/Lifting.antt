@@ -1,6 +1,6 @@
 -- Where nothing new is known of the connection, its limit stands.
 use Rattle.std.proofs.{Common.{◌≡◌, ◌∙◌, ℕ, Bool, Option, sym}, lemmas.Bool.true≢false}
-use Rattle.sockets.specs.Wires.{StreamMade, Lifts}
+use Rattle.sockets.specs.Sockets.{StreamMade, Lifts}
 
 pub unlifted :
     {S : Type 0} (did : StreamMade → S → S → Type 0) (limit : Option ℕ) (was is : Bool) (before after : S) → is ≡ was → after ≡ before

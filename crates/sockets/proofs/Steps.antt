@@ -1,7 +1,7 @@
 -- One event more that was passed on, and that a socket stays the same connection while it is told how long to wait.
 use Rattle.std.proofs.{Common.{◌≡◌, ◌∙◌, ◌+◌, ◌<◌, ◌++◌, [], ◌∷◌, ℕ, List, Option, Some, None, length, refl, slice_index_or, take}, lemmas.List.take_more}
 use Rattle.mio.specs.declared.event.event.Event.{Event}
-use Rattle.sockets.specs.{Fronts.{Step, PassedOn, ArePassedOn}, Wires.{Limits, Probing, Waits}, declared.{forwarding.Patience.Patience, socket.Socket.Socket}}
+use Rattle.sockets.specs.{Fronts.{Step, PassedOn, ArePassedOn}, Sockets.{Limits, Probing, Waits}, declared.{forwarding.Patience.Patience, socket.Socket.Socket}}
 
 last_one : {P : Type 0} (did : Step → P → P → Type 0) (events : List Event) (event : Event) (a b c : P) → ArePassedOn did events a b → did (PassedOn event) b c
     → ArePassedOn did (events ++ event ∷ []) a c

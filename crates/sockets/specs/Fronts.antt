@@ -3,17 +3,16 @@ use Rattle.std.specs.{Prelude.{◌≡◌, ◌≢◌, ◌⊎◌, ℕ, pos, ◌*�
 use Rattle.token.specs.{Names.EndName, Numbers.name_of, declared.name.Name.{Name, TheVariants.{Listener, Waker, End}}}
 use Rattle.readiness.specs.Words.{WordName, end_word}
 use Rattle.settings.specs.Addresses.{SocketAddress}
-use Rattle.common.specs.{Told.Seen, declared.front.{Waiting.Waiting, Route.Route}}
-use Rattle.sockets.specs.{declared.forwarding.Forwarding.Forwarding, Wires.{StreamMade, NamedHere}}
+use Rattle.shared.specs.{Told.Seen, declared.front.{Waiting.Waiting, Route.Route}}
+use Rattle.sockets.specs.{declared.forwarding.Forwarding.Forwarding, Sockets.{StreamMade, NamedHere}}
 use Rattle.mio.specs.{declared.event.event.Event.Event, Event.{event_token, is_readable, is_error, is_read_closed, is_write_closed}}
-use Rattle.common.specs.declared.front.Waiting.TheVariants as waiting
+use Rattle.shared.specs.declared.front.Waiting.TheVariants as waiting
 
 -- the numbers of what is reported, in the order of the reports
 abbrev pub numbers : List Event → List ℕ
 numbers events = map (λ (event : Event). (event_token event).0) events
 
--- an event names reading: there is something to read, or the socket has failed, or the peer has closed it
--- (epoll_ctl(2))
+-- an event names reading: there is something to read, or the socket has failed, or the peer has closed it (epoll_ctl(2))
 abbrev pub names_reading : Event → Bool
 names_reading event = is_readable event || (is_error event || (is_read_closed event || is_write_closed event))
 

@@ -1,3 +1,3 @@
 -- The crate's definitions. A file that the promises do not need says so at its head.
 pub mod Fronts
-pub mod Wires
+pub mod Sockets

@@ -1,6 +1,6 @@
 //! When a socket sends at once, and when it waits for more (TCP_NODELAY).
 ghost use Rattle.std.specs.Prelude.{◌≡◌, ◌↔◌, true, false, IsTrue};
-ghost use Rattle.sockets.specs.Wires.{plain_sending, prompt, IsOffered};
+ghost use Rattle.sockets.specs.Sockets.{plain_sending, prompt, IsOffered};
 
 use crate::limits::BULK;
 use relay_core::MAX_READ;
@@ -17,7 +17,7 @@ pub(crate) struct Delay {
 
 impl Model for Delay {
     ghost use Rattle.std.specs.Prelude.{◌≤◌};
-    ghost use Rattle.sockets.specs.Wires.{Sending};
+    ghost use Rattle.sockets.specs.Sockets.{Sending};
 
     ghost Value = { Sending };
 

@@ -1,6 +1,6 @@
 //! Where clients are connected to, and how long is waited for a peer.
 ghost use Rattle.std.specs.Prelude.{◌≡◌};
-ghost use Rattle.sockets.specs.{Fronts.IsAt, Wires.unlimited};
+ghost use Rattle.sockets.specs.{Fronts.IsAt, Sockets.unlimited};
 
 use mio::Registry;
 use mio::net::{TcpListener, TcpStream};

@@ -1,6 +1,6 @@
 //! The front over the system's sockets: a listener ([`bind`]), which may be one that the program was started with
 //! ([`take_passed`]); a connection to the target for each client; and epoll(7) ([`open_all`]). All sockets are
-//! edge-triggered, and nothing waits except [`Front::poll`](common::Front::poll).
+//! edge-triggered, and nothing waits except [`Front::poll`](shared::Front::poll).
 //!
 //! - [`Sockets`] is the front of one poller, and [`Forwarding`] says where it connects clients. All fronts share one
 //!   listening socket ([`Bound`]), and each leaves clients to fronts that have fewer (`loads`). [`Wakers`] wakes the

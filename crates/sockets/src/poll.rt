@@ -1,7 +1,7 @@
 //! A poller's front over epoll(7): it waits, accepts, connects and registers.
 ghost use Rattle.std.specs.{Prelude.{◌≡◌, ◌≢◌, ◌↔◌, ◌⊎◌, IsTrue, if◌then◌else◌, ◌+◌, ◌-◌, ◌<◌, ◌≤◌, All, [], true, false, Some, None, IfOk, OnOk, IfErr, OnErr, Err, IsErrAnd, vec_len, vec_capacity}, Arc.arc_value, IoError.error_kind, declared.io.{Error.Error, ErrorKind.TheVariants.Interrupted}};
-ghost use Rattle.sockets.specs.{Fronts.{longest_of, most_lacking, most_left, v4_of, IsFreshFront, LacksDescriptors, LacksMemory, IsLocal, IsRoute, MayTell, OnlyLacked, Polls, WaitEnded}, Wires.{SameButWatched, fresh_wire, patient, under, unlimited}};
-ghost use Rattle.common.specs.{Told.{millis_of, unaccepted_of, Waited}, declared.front.{Unaccepted.TheVariants.Starved, Unopened.TheVariants.{Connect, Register}}};
+ghost use Rattle.sockets.specs.{Fronts.{longest_of, most_lacking, most_left, v4_of, IsFreshFront, LacksDescriptors, LacksMemory, IsLocal, IsRoute, MayTell, OnlyLacked, Polls, WaitEnded}, Sockets.{SameButWatched, fresh_wire, patient, under, unlimited}};
+ghost use Rattle.shared.specs.{Told.{millis_of, unaccepted_of, Waited}, declared.front.{Unaccepted.TheVariants.Starved, Unopened.TheVariants.{Connect, Register}}};
 ghost use Rattle.sizes.specs.Splits.{parts_of};
 
 use crate::bound::Bound;
@@ -16,13 +16,13 @@ use crate::stop::{IsSet, Stop};
 use crate::stream::Stream;
 use crate::waiting::{Reporter, Waiter, put_numbers};
 use crate::wire::SocketWire;
-use common::{Front, Opened, Route, Settle, Unopened, Waiting};
 use libc::{EMFILE, ENOMEM, ENOSPC};
 use log::{Level, Log};
 use mio::net::TcpListener;
 use mio::unix::SourceFd;
 use mio::{Interest, Poll, Waker};
 use readiness::{Reports, Told};
+use shared::{Front, Opened, Route, Settle, Unopened, Waiting};
 use sizes::{LISTENER, MAX_BATCH, ServerFault, Split, WAKER};
 use std::alloc::{AllocError, Global};
 use std::io;

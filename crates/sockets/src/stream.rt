@@ -1,7 +1,7 @@
 //! What a wire needs of a system's socket.
 ghost use Rattle.std.specs.{Prelude.{length, OnOk}, Io.WritesAtMost};
 ghost use Rattle.engine.specs.Wires.{read_gave, write_gave, call_gave};
-ghost use Rattle.sockets.specs.Wires.{StreamMade, Called, Pending, Named, NamedHere, SentAtOnce, GivesUpAfter, Probes, Registered, Looked};
+ghost use Rattle.sockets.specs.Sockets.{StreamMade, Called, Pending, Named, NamedHere, SentAtOnce, GivesUpAfter, Probes, Registered, Looked};
 ghost use Rattle.engine.specs.Wires as ask;
 
 use mio::{Registry, Token};

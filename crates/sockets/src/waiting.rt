@@ -1,14 +1,14 @@
 //! How a poller waits for reports, which nothing else does (epoll_wait(2)), and passes them on.
 ghost use Rattle.std.specs.Prelude.{◌≡◌, ◌↔◌, ◌≤◌, ◌+◌, ◌++◌, IfOk, IsTrue, OnErr, [], length, false, vec_len, vec_capacity};
 ghost use Rattle.mio.specs.Events.{items, capacity as events_capacity};
-ghost use Rattle.common.specs.Told.{millis_of};
+ghost use Rattle.shared.specs.Told.{millis_of};
 ghost use Rattle.token.specs.Numbers.{name_of};
 ghost use Rattle.sockets.specs.Fronts.{end_in, heard_of, names_reading, numbers, ArePassedOn, WaitFails, Gave, PassedOn};
 
-use common::Waiting;
 use mio::event::Event;
 use mio::{Events, Poll, Registry};
 use readiness::{Heard, Reports};
+use shared::Waiting;
 use sizes::MAX_BATCH;
 use std::alloc::{AllocError, Global};
 use std::io;

@@ -2,19 +2,19 @@
 ghost use Rattle.std.specs.{Prelude.{◌≡◌, true, false, Some, None, IfSome, OnOk, OnErr}, IoError.error_kind};
 ghost use Rattle.token.specs.Names.{end_number};
 ghost use Rattle.engine.specs.{Classes.{class_by, pending_kind, connected, counted}, Wires.call_gave};
-ghost use Rattle.sockets.specs.Wires.{HasAddress, IsOffered, Registered, Switches, Joins, Lifts, Limits, Probing, Waits, fresh_wire, patient, promptly, took, under, reads_after_error, goes_on_after, Looked};
+ghost use Rattle.sockets.specs.Sockets.{HasAddress, IsOffered, Registered, Switches, Joins, Lifts, Limits, Probing, Waits, fresh_wire, patient, promptly, took, under, reads_after_error, goes_on_after, Looked};
 
 use crate::delay::Delay;
 use crate::failure::log_failure;
 use crate::forwarding::Patience;
 use crate::socket::Socket;
 use crate::stream::Stream;
-use common::Settle;
 use engine::{Class, Tally, Wire, class_by};
 use log::{Level, Log};
 use mio::Registry;
 use readiness::{Attention, Told};
 use relay_core::CallKind;
+use shared::Settle;
 use std::io;
 use std::marker::Model;
 use std::net::SocketAddr;
@@ -40,7 +40,7 @@ pub struct SocketWire<S = Socket> {
 }
 
 impl<S> Model for SocketWire<S> {
-    ghost use Rattle.sockets.specs.Wires.{Wired};
+    ghost use Rattle.sockets.specs.Sockets.{Wired};
 
     ghost Value = { Wired S };
 
@@ -288,7 +288,7 @@ fn failure(pending: io::Error) -> io::Error
 
 impl<S: Stream> Wire for SocketWire<S> {
     ghost use Rattle.engine.specs.Wires.{counts_alone};
-    ghost use Rattle.sockets.specs.Wires.{IsDone};
+    ghost use Rattle.sockets.specs.Sockets.{IsDone};
 
     ghost told = { λ w. counts_alone w.socket.tally.faults w.socket.tally.blocks };
 

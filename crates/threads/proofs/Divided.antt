@@ -1,6 +1,6 @@
 -- Which ends of the queues of free slots the threads get, and in which order the threads are made.
 use Rattle.std.{proofs.{Common.{◌≡◌, ℕ, zero, suc, ◌+◌, List, [], ◌∷◌, ◌++◌, length, drop, map, All, slice_index_or, Some, ◌<◌, refl, sym, add-one, append_assoc, append-nil, arith}, Math.Seq.drop-cons, lemmas.List.{map-append, map-id, nil_from_length, reverse-append, FromFn.map-range_with_len_more, Elements.{All-push, Contains-append_left, Contains-push}}}, specs.{Prelude.{Contains, Option, None, IfSome, option_to_list}, List.{slice_set, enumerate_from, range_with_len}}}
-use Rattle.ready.specs.Steps.{EndState}
+use Rattle.queues.specs.Steps.{EndState}
 use Rattle.threads.{specs.Divided.{numbered, IsEndOf, AreLeft, HasOneOfEach, PairsOff}, proofs.Served.{next_of_first, through}}
 
 abbrev pub End : Type 0

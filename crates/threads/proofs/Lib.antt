@@ -1,3 +1,4 @@
 pub mod Divided
-pub mod Loops
+pub mod WorkerLoops
+pub mod PollerLoops
 pub mod Served

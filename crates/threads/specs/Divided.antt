@@ -1,7 +1,7 @@
 -- How what a server is made of is divided among its threads.
 use Rattle.std.specs.{Prelude.{◌≡◌, ℕ, ◌+◌, ◌*◌, List, [], ◌∷◌, reverse, Contains, slice_index_or}, List.enumerate_from}
-use Rattle.ready.specs.Steps.{EndState}
-use Rattle.common.specs.declared.shared.Parts.{Parts}
+use Rattle.queues.specs.Steps.{EndState}
+use Rattle.shared.specs.declared.shared.Parts.{Parts}
 use Rattle.threads.specs.declared.working.Owned.{Owned}
 
 -- what no thread has been given yet: parts, and for each poller the ends of its free queue that are left

@@ -1,11 +1,10 @@
 -- How the parts of a server are run to their ends, each in a thread of its own.
 use Rattle.std.specs.{Prelude.{◌≡◌, ℕ, nat_lt, if◌then◌else◌, Bool, All, List, [], ◌++◌, fold, length, map, Option, None, Some, option_map, option_to_list}, List.{range_with_len}, Option.is_some}
 use Rattle.claims.specs.Seats.{SeatState}
-use Rattle.ready.specs.Steps.{EndState}
-use Rattle.common.specs.declared.shared.Own.{Own}
+use Rattle.queues.specs.Steps.{EndState}
+use Rattle.shared.specs.declared.{shared.Own.Own, front.Unaccepted.Unaccepted}
 use Rattle.rounds.specs.Pollers.{PollerState}
-use Rattle.common.specs.declared.front.Unaccepted.{Unaccepted}
-use Rattle.threads.specs.{declared.{context.ThreadEnd.ThreadEnd, faults.Few.Few, joining.Served.Served, working.Owned.Owned}, Divided.{HasOneOfEach, IsEndOf, PairsOff, ends_of, numbered}, Loops.{RunMade, WorkerEnded, fault_by}}
+use Rattle.threads.specs.{declared.{context.ThreadEnd.ThreadEnd, faults.Few.Few, joining.Served.Served, working.Owned.Owned}, Divided.{HasOneOfEach, IsEndOf, PairsOff, ends_of, numbered}, PollerLoops.RunMade, WorkerLoops.WorkerEnded, LoopEnds.fault_by}
 use Rattle.sizes.specs.declared.faults.ServerFault.{ServerFault, TheVariants.{Threads}}
 
 -- what a poller's thread begins with

@@ -1,11 +1,11 @@
 //! What every thread of a server is handed, and how a fault of one ends the others.
 ghost use Rattle.std.specs.Prelude.{◌≡◌, Bool};
-ghost use Rattle.threads.specs.{Loops.{AllWoken, EndsAll, IsTold}, Served.met};
+ghost use Rattle.threads.specs.{LoopEnds.{AllWoken, EndsAll, IsTold}, Served.met};
 
 use crate::ending::{Ended, Ending, Why};
 use crate::faults::Recorded;
-use common::{Front, Shared, Timing};
-use ready::{Closed, ReadyQueue};
+use queues::{Closed, ReadyQueue};
+use shared::{Front, Shared, Timing};
 use sizes::{ServerFault, Split};
 use std::alloc::Global;
 use std::sync::Wait;

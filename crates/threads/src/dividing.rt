@@ -1,16 +1,15 @@
 //! Divides what a server is made of among its threads.
 ghost use Rattle.std.specs.{Prelude.{◌≡◌, ◌≤◌, [], All, Contains, drop, map, IfOk, IfSome, OnOk}, Arc.arc_value, List.range_with_len};
 ghost use Rattle.claims.specs.Seats.{fresh_seat};
-ghost use Rattle.common.specs.{Hands.empty_hand, Posts.AreFresh};
-ghost use Rattle.threads.specs.Divided.{hand_of_poller, numbered, IsEndOf, AreLeft, HasOneOfEach, PairsOff, ends_of};
-ghost use Rattle.threads.specs.Served.{IsDivided, poller_part, worker_part};
+ghost use Rattle.shared.specs.{Hands.empty_hand, Posts.AreFresh};
+ghost use Rattle.threads.specs.{Divided.{hand_of_poller, numbered, IsEndOf, AreLeft, HasOneOfEach, PairsOff, ends_of}, Served.{IsDivided, poller_part, worker_part}};
 
 use crate::polling::PollerThread;
 use crate::running::Server;
 use crate::working::{Owned, Worker};
-use common::{Front, Own, Parts, Shared};
-use ready::FreeQueue;
+use queues::FreeQueue;
 use rounds::Poller;
+use shared::{Front, Own, Parts, Shared};
 use sizes::MAX_BATCH;
 use std::alloc::{AllocError, Global};
 use std::marker::Model;

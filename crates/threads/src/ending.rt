@@ -1,13 +1,13 @@
 //! How the threads of a server come to their end: why the loop of each ends, and what becomes of a fault.
 ghost use Rattle.std.specs.Prelude.{◌≡◌, ◌↔◌, [], IfOk, IfErr, IfSome, IsTrue, OnErr, OnOk, None, option_map, true, false};
-ghost use Rattle.ready.specs.Steps.{look_of};
-ghost use Rattle.threads.specs.Loops.{EndsAll, Took, announced, fault_by};
+ghost use Rattle.queues.specs.Steps.{look_of};
+ghost use Rattle.threads.specs.{LoopEnds.{EndsAll, announced, fault_by}, WorkerLoops.Took};
 
 use crate::faults::{Found, Recorded};
 use crate::joining::Served;
-use common::{Front, Own};
-use ready::{Drained, Empty, Full, Ticket};
+use queues::{Drained, Empty, Full, Ticket};
 use rounds::Poller;
+use shared::{Front, Own};
 use sizes::ServerFault;
 use std::marker::Model;
 use std::sync::atomic::AtomicUsize;

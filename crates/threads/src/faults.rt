@@ -1,6 +1,6 @@
 //! What becomes of a fault that a thread met: it is recorded, and a mark is set.
 ghost use Rattle.std.specs.Prelude.{◌≡◌};
-ghost use Rattle.threads.specs.Loops.{announced};
+ghost use Rattle.threads.specs.LoopEnds.{announced};
 
 use sizes::ServerFault;
 use std::marker::Model;
@@ -18,7 +18,7 @@ pub struct Recorded<'a> {
 }
 
 impl<'a> Model for Recorded<'a> {
-    ghost use Rattle.threads.specs.Loops.{Announced, announced};
+    ghost use Rattle.threads.specs.LoopEnds.{Announced, announced};
 
     ghost Value = { Announced };
 

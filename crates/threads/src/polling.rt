@@ -3,14 +3,14 @@ ghost use Rattle.std.specs.{Prelude.{◌≡◌, ◌⊎◌, length, slice_get, Ok
 ghost use Rattle.claims.specs.Seats.{HoldsNothing};
 ghost use Rattle.rounds.specs.{Episodes.no_drops, Pollers.HasOpenedAll};
 ghost use Rattle.turns.specs.Turns.{NoOwnTurn};
-ghost use Rattle.common.specs.Posts.{OnlyWorn};
-ghost use Rattle.threads.specs.{Loops.{AllWoken, StopAsked, IsTold, LoopMade, OnlyMarked, OwnRan, RoundCut, RoundOver, RunMade, StepCut, StepMade, TurnsAfter, TurnsCut}};
+ghost use Rattle.shared.specs.Posts.{OnlyWorn};
+ghost use Rattle.threads.specs.{LoopEnds.{AllWoken, IsTold}, PollerLoops.{StopAsked, LoopMade, OnlyMarked, OwnRan, RoundCut, RoundOver, RunMade, StepCut, StepMade, TurnsAfter, TurnsCut}};
 
 use crate::context::{Context, StopFlag, Told};
 use crate::ending::{Ended, NoFault, end_if_over};
-use common::{Clock, Front, Gate, Own, Shared};
 use log::Log;
 use rounds::{Poller, poller_round};
+use shared::{Clock, Front, Gate, Own, Shared};
 use sizes::{MAX_OWN_TURNS, ServerFault};
 use std::sync::{Arc, Wait};
 use turns::{Worked, own_turn, share_tickets};

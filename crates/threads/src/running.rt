@@ -1,8 +1,8 @@
 //! A server's threads, from the first to the last.
 ghost use Rattle.std.specs.Prelude.{◌≡◌, ◌≤◌, ℕ, List, [], IfSome, None, Some, map, option_to_list, vec_capacity, vec_len};
 ghost use Rattle.claims.specs.Seats.{fresh_seat};
-ghost use Rattle.common.specs.Posts.{AreFresh};
-ghost use Rattle.threads.specs.{Divided.PairsOff, Loops.{announced}, Served.{AllRan, IsDivided, fault_of, PollerPart, PollerRuns, WorkerPart, WorkerRuns, poller_part, worker_part}};
+ghost use Rattle.shared.specs.Posts.{AreFresh};
+ghost use Rattle.threads.specs.{Divided.PairsOff, LoopEnds.announced, Served.{AllRan, IsDivided, fault_of, PollerPart, PollerRuns, WorkerPart, WorkerRuns, poller_part, worker_part}};
 
 use crate::context::{Context, StopFlag, ThreadEnd};
 use crate::dividing::divide;
@@ -11,11 +11,11 @@ use crate::faults::{Few, Recorded};
 use crate::joining::{Crew, Handed, Joins, Lack, Outcome, Part, Served};
 use crate::polling::PollerThread;
 use crate::working::Worker;
-use common::{Clock, Front, Gate, Parts, Shared, Timing};
 use log::Log;
-use ready::FreeQueue;
+use queues::FreeQueue;
 use relay_log::log_few_threads;
 use rounds::Poller;
+use shared::{Clock, Front, Gate, Parts, Shared, Timing};
 use sizes::{ServerFault, Split};
 use std::alloc::Global;
 use std::sync::Wait;

@@ -1,14 +1,14 @@
 //! The steps of a worker's thread.
 ghost use Rattle.std.specs.{Prelude.{◌≡◌, ◌<◌, [], IfErr, OnOk}, Arc.arc_value};
 ghost use Rattle.claims.specs.Seats.{HoldsNothing};
-ghost use Rattle.common.specs.{Hands.HasRoom, Outgoing.outgoing, Posts.OnlyWorn};
-ghost use Rattle.threads.specs.{Divided.ends_of, Loops.{Changes, GivesToOwner, IsTold, OneRan, WorkerEnded, WorkerRan}};
+ghost use Rattle.shared.specs.{Hands.HasRoom, Outgoing.outgoing, Posts.OnlyWorn};
+ghost use Rattle.threads.specs.{Divided.ends_of, WorkerLoops.{Changes, GivesToOwner, OneRan, WorkerEnded, WorkerRan}, LoopEnds.IsTold};
 
 use crate::context::{Context, Told};
 use crate::ending::{Cleared, Ended, take};
-use common::{Clock, Front, Gate, Hand, Own, Shared, give_slots, put_tickets};
 use log::Log;
-use ready::{FreeQueue, Full, Ticket};
+use queues::{FreeQueue, Full, Ticket};
+use shared::{Clock, Front, Gate, Hand, Own, Shared, give_slots, put_tickets};
 use sizes::ServerFault;
 use std::sync::{Arc, Wait};
 use std::{mem, thread};
@@ -84,7 +84,7 @@ impl<F: Front> Worker<F> {
     }
 
     /// Puts the tickets that are in hand, until their queue is full.
-    #[tactic(auto, using(crate::proofs::Loops::worker_none))]
+    #[tactic(auto, using(crate::proofs::WorkerLoops::worker_none))]
     fn put_hand(&mut self, rt: &impl Wait) -> Result<(), Full<Ticket>>
         ensures ran { WorkerRan [] [] self.old.owned self.new.owned }
         ensures put { OnOk result (self.new.owned.own.hand.tickets ≡ []) }

@@ -1,17 +1,16 @@
 -- The end of a turn, after the steps that took the notes and ran the connection; and the tickets in hand of which some
 -- were looked at: each of those is put, or after the others in hand.
-use Rattle.std.proofs.{Common.{◌≡◌, ◌⊎◌, ◌+◌, ◌<◌, ◌≤◌, ℕ, List, [], ◌∷◌, length, drop, slice_get, get_or, Bool, true, false, Option, Some, None, Result, Ok, IfSome, IfErr, IfNone, inl, inr, refl, sym, ap, ◌∙◌, arith, suc, ◌++◌, append_assoc, zero}, lemmas.{Option.{same_Some}, Bool.{cases_lt, false≢true}, List.{append-nil, drop_more, drop_all}}}
-use Rattle.std.specs.Option.{is_some, ok_or, option_or, IsSome}
+use Rattle.std.{proofs.{Common.{◌≡◌, ◌⊎◌, ◌+◌, ◌<◌, ◌≤◌, ℕ, List, [], ◌∷◌, length, drop, slice_get, get_or, Bool, true, false, Option, Some, None, Result, Ok, IfSome, IfErr, IfNone, inl, inr, refl, sym, ap, ◌∙◌, arith, suc, ◌++◌, append_assoc, zero}, lemmas.{Option.same_Some, Bool.{cases_lt, false≢true}, List.{append-nil, drop_more, drop_all}}}, specs.Option.{is_some, ok_or, option_or, IsSome}}
 use Rattle.claims.{specs.{declared.{view.{Account.Account, Exchange.{Exchange, TheVariants.{Held, Take, Post}}}, answers.Posted.Posted}, Calls.PostChange, Views.{after_all, minted_by}, Seats.{TableId, SeatState, Holds, OnlyAt, Adds}}, proofs.Seats.{adds_both, account_after, minted_both, holds_nothing_again}}
-use Rattle.common.{proofs.Holding.holds_from, specs.{declared.{places.Berth.Berth, shared.Own.Own}, Posts.{AtRest, HoldsOnly, IsWorn, OnlyWorn}, Hands.{HandState, HasRoom}, Acts.{AreMade, Made, giving}, Heavy.looked_at}}
-use Rattle.ready.specs.{declared.ticket.Ticket.Ticket, Steps.QueueEnd}
+use Rattle.shared.{proofs.Holding.holds_from, specs.{declared.{places.Berth.Berth, shared.Own.Own}, Posts.{AtRest, HoldsOnly, IsWorn, OnlyWorn}, Hands.{HandState, HasRoom}, Acts.{AreMade, Made, giving}, Heavy.looked_at}}
+use Rattle.queues.specs.{declared.ticket.Ticket.Ticket, Steps.QueueEnd}
 use Rattle.engine.specs.Turns.{outcome_of}
 use Rattle.sizes.specs.declared.faults.ServerFault.{ServerFault, TheVariants.Worn}
 use Rattle.turns.specs.{declared.worker.Worked.Worked, Turns.{noted_by, ActsLeft, Handled, Handles, LeavesAs, Playing, RunRest, WasHeld, TurnInOrder, turn_exchanges, AtWork, TicketsKept, SlotGiven, SlotsKept, TurnDone, TurnRest, TurnMade, ticket_of}, Shares.{AreShared, IsLight, OneShared, Passed, Stays}}
 use Rattle.claims.specs.declared.answers.Posted.TheVariants as posted
 use Rattle.engine.specs.declared.outcome.Turn.TheVariants as turn
 use Rattle.turns.specs.declared.worker.Worked.TheVariants as worked
-use Rattle.common.specs.Acts as act
+use Rattle.shared.specs.Acts as act
 
 abbrev Answer : Type 0
 Answer = Result Worked ServerFault

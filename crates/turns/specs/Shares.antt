@@ -1,7 +1,7 @@
 -- Which tickets a poller's thread keeps for turns of its own, and which it puts for the workers.
 use Rattle.std.specs.Prelude.{◌≡◌, ◌⊎◌, ℕ, suc, ◌<◌, List, [], ◌∷◌, ◌++◌, slice_index, Option, IsSome}
-use Rattle.ready.specs.{declared.ticket.Ticket.Ticket, Steps.{IsStill, PutOne, QueueEnd}}
-use Rattle.common.specs.{Heavy.looked_at, declared.shared.Own.Own}
+use Rattle.queues.specs.{declared.ticket.Ticket.Ticket, Steps.{IsStill, PutOne, QueueEnd}}
+use Rattle.shared.specs.{Heavy.looked_at, declared.shared.Own.Own}
 use Rattle.sizes.specs.Limits.{first_light}
 
 -- the ticket was put

@@ -1,13 +1,12 @@
 -- What a turn does to what its thread owns, by its answer.
 use Rattle.std.specs.{Prelude.{◌≡◌, ◌≢◌, ◌⊎◌, ℕ, zero, suc, ◌<◌, ◌≤◌, Bool, true, false, nat_lt, if◌then◌else◌, Option, Some, None, Result, Ok, Err, List, [], ◌∷◌, drop, length, slice_get, slice_set, IfSome, IfErr, OnOk}, Option.is_some}
 use Rattle.claims.specs.{declared.view.Exchange.{Exchange, TheVariants.{Post, Busy, Held, Take, Release, Retire}}, Views.minted_by, Seats.{TableId, account_at, Adds}}
-use Rattle.ready.specs.declared.ticket.Ticket.{Ticket}
+use Rattle.queues.specs.declared.ticket.Ticket.{Ticket}
 use Rattle.relay_core.specs.{Pairs.{PairState, noted}, Replies.AnswerValue, declared.Side.Side}
 use Rattle.engine.specs.Turns.{IsTurn, outcome_of}
 use Rattle.turns.specs.declared.worker.{HandPut.HandPut, Worked.Worked}
-use Rattle.sizes.specs.declared.faults.ServerFault.{ServerFault}
-use Rattle.common.specs.{declared.{places.Berth.Berth, shared.Own.Own}, Acts.{Act, Made, TakeOut, Play, Settle, PutIn, Close, AreMade, busy_turn, gone_turn, quiet_turn, again_turn, ended_turn, leaving}, Hands.HasRoom, Posts.{HoldsOnly, OnlyWorn}, Outgoing.{Inserted, KeepsTicket, KeepsSlot, TookNothing, tickets_out, slots_out, without_first}}
-use Rattle.sizes.specs.Limits.{heavy_marks}
+use Rattle.sizes.specs.{declared.faults.ServerFault.ServerFault, Limits.heavy_marks}
+use Rattle.shared.specs.{declared.{places.Berth.Berth, shared.Own.Own}, Acts.{Act, Made, TakeOut, Play, Settle, PutIn, Close, AreMade, busy_turn, gone_turn, quiet_turn, again_turn, ended_turn, leaving}, Hands.HasRoom, Posts.{HoldsOnly, OnlyWorn}, Outgoing.{Inserted, KeepsTicket, KeepsSlot, TookNothing, tickets_out, slots_out, without_first}}
 use Rattle.token.specs.Names.{last_generation}
 use Rattle.engine.specs.declared.outcome.Turn.TheVariants as turn
 use Rattle.turns.specs.declared.worker.Worked.TheVariants as worked

@@ -1,20 +1,20 @@
 //! What a turn puts into the queues: the ticket of its slot, or the slot. What a queue refuses stays in hand.
 ghost use Rattle.std.specs.Prelude.{◌≡◌, ◌<◌, nat_lt, length};
 ghost use Rattle.claims.specs.Seats.{HoldsNot};
-ghost use Rattle.common.specs.{Acts.{AreMade, giving}, Outgoing.{tickets_out, Inserted, KeepsTicket}};
+ghost use Rattle.shared.specs.{Acts.{AreMade, giving}, Outgoing.{tickets_out, Inserted, KeepsTicket}};
 ghost use Rattle.token.specs.Names.{last_generation};
 ghost use Rattle.turns.specs.{Shares.Passed, Turns.SlotGiven};
-ghost use Rattle.common.specs.Acts as act;
+ghost use Rattle.shared.specs.Acts as act;
 
 use crate::visit::Closed;
-use common::{Acts, Own};
-use ready::{Full, Ticket};
+use queues::{Full, Ticket};
+use shared::{Acts, Own};
 use std::sync::Wait;
 use token::MAX_GENERATION;
 
 /// Puts the ticket of a slot that was released. If it were put before, another thread could take it, find the slot
 /// held, and drop it. Some: the queue was full, and the ticket is in hand.
-#[tactic(auto, using(common::proofs::Outgoing::put_inserts, common::proofs::Outgoing::refused_ticket))]
+#[tactic(auto, using(shared::proofs::Outgoing::put_inserts, shared::proofs::Outgoing::refused_ticket))]
 pub(crate) fn put_ticket<A: Acts, R: Wait>(
     rt: &R,
     acts: &mut A,

@@ -1,9 +1,9 @@
 //! What the log has of a connection that has ended.
 
-use common::{Berth, Front, Settle};
 use log::Log;
 use relay_core::{Fault, Verdict};
 use relay_log::{Gone, Known, Why, logs_gone};
+use shared::{Berth, Front, Settle};
 use sizes::ClientsAt;
 use token::Side;
 

@@ -3,7 +3,7 @@
 //! its rounds itself ([`own_turn`]), and puts the others into the queue ([`share_tickets`]).
 //!
 //! One thread at a time holds a slot (`claims`), so a connection's two sockets and its pair are never touched by two
-//! threads at once, and no note is lost between them. What it is lent is in `common`; `rounds` makes the tickets.
+//! threads at once, and no note is lost between them. What it is lent is in `shared`; `rounds` makes the tickets.
 //!
 //! # Inside
 //!
@@ -13,11 +13,11 @@
 //!   `back`). A ticket is put, and a slot is given back, once the seat no longer holds the slot (`put_ticket`:
 //!   `released`; `give_back`: `retired`), and a slot only once its connection is closed (`Closed`). Then the poller is
 //!   woken (`wake_if_ended`). What is in hand is put oldest first, until nothing is left or the queue is full
-//!   (`put_tickets`, `give_slots` of `common`: `all`), as the answer shows ([`HandPut`]).
+//!   (`put_tickets`, `give_slots` of `shared`: `all`), as the answer shows ([`HandPut`]).
 //! - The function that takes the notes and makes the calls (`play`) is passed no allocator, and no `Wait`, so that it
 //!   waits for no lock. The connection's place is locked before `play`, and again after it.
 //! - If workers run light tickets, one after the first 16 is kept only after a look of its own, which found no end of
-//!   the ready queue asleep (`keep`: `early`, `alone`; `AllBusy` of `ready`). An own turn makes at most 8 calls
+//!   the ready queue asleep (`keep`: `early`, `alone`; `AllBusy` of `queues`). An own turn makes at most 8 calls
 //!   (`own_turn`: `turn`).
 #![tactic(auto)]
 

@@ -2,15 +2,15 @@
 ghost use Rattle.std.specs.Prelude.{◌≡◌, ◌↔◌, ◌<◌, ◌∷◌, ◌++◌, [], length, min, slice_get, Ok, Some, None, IfErr, IfSome, IsSome, false, true};
 ghost use Rattle.claims.specs.Seats.{HoldsNothing};
 ghost use Rattle.engine.specs.Turns.{IsServed};
-ghost use Rattle.common.specs.{Heavy.looked_at, Posts.{AtRest, OnlyWorn}};
+ghost use Rattle.shared.specs.{Heavy.looked_at, Posts.{AtRest, OnlyWorn}};
 ghost use Rattle.sizes.specs.Limits.{first_light, own_budget};
 ghost use Rattle.turns.specs.{Shares.{IsLight, Stays, TicketsShared}, Turns.{marks_after, Handling, NoOwnTurn, OwnTurn, PlaysAt}};
 
 use crate::giving::put_ticket;
 use crate::worker::{Worked, turn_of};
-use common::{Clock, Front, Gated, Hand, HeavyMarks, Own, Shared, Timing};
 use log::Log;
-use ready::{AllBusy, Full, ReadyQueue, Ticket};
+use queues::{AllBusy, Full, ReadyQueue, Ticket};
+use shared::{Clock, Front, Gated, Hand, HeavyMarks, Own, Shared, Timing};
 use sizes::{FIRST_LIGHT, OWN_BUDGET, ServerFault};
 use std::sync::Wait;
 

@@ -2,18 +2,18 @@
 ghost use Rattle.std.specs.Prelude.{◌≡◌, ℕ, ◌<◌, ◌≤◌, [], ◌∷◌, Some, None, IfOk, IfErr};
 ghost use Rattle.claims.specs.Seats.{Adds};
 ghost use Rattle.engine.specs.Turns.{outcome_of, IsServed};
-ghost use Rattle.common.specs.{Posts.HoldsOnly, Told.{ended_by, moved_by}};
+ghost use Rattle.shared.specs.{Posts.HoldsOnly, Told.{ended_by, moved_by}};
 ghost use Rattle.turns.specs.Turns.{noted_by, ticket_of, Plays};
 ghost use Rattle.claims.specs.declared.view.Exchange.TheVariants as exchange;
-ghost use Rattle.common.specs.Acts as act;
+ghost use Rattle.shared.specs.Acts as act;
 
 use crate::gone::log_gone;
 use claims::ClaimSeat;
-use common::{Berth, Front, Gated, Moves, Own, Settle, Shared, ended_by, moved_by};
 use engine::{Moment, Turn};
 use log::Log;
-use ready::Ticket;
+use queues::Ticket;
 use relay_core::{MAX_READ, Pair};
+use shared::{Berth, Front, Gated, Moves, Own, Settle, Shared, ended_by, moved_by};
 use sizes::ClientsAt;
 use std::sync::Wait;
 

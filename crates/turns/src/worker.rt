@@ -1,18 +1,18 @@
 //! One turn of a worker.
 ghost use Rattle.std.specs.{Prelude.{◌≡◌, ◌<◌, ◌≤◌, true, false, Some, Ok, IfErr, IfNone, IfSome}, Option.ok_or};
 ghost use Rattle.engine.specs.Turns.{IsServed};
-ghost use Rattle.common.specs.{declared.places.Berth.Berth, Hands.HasRoom, Outgoing.KeepsSlot, Posts.{AtRest, IsWorn, OnlyWorn}};
+ghost use Rattle.shared.specs.{declared.places.Berth.Berth, Hands.HasRoom, Outgoing.KeepsSlot, Posts.{AtRest, IsWorn, OnlyWorn}};
 ghost use Rattle.token.specs.Names.{last_generation};
 ghost use Rattle.turns.specs.Turns.{AtWork, Handled, Handling, LeftSlot, Plays, PlaysAt, RunRest, TurnInOrder, TurnRest, WorkerTurn, ticket_of};
 
 use crate::giving::{give_back, put_ticket};
 use crate::visit::{Back, Terms, Visit, put_in, take_out};
 use claims::{Claimed, Posted, Released};
-use common::{Clock, Front, Gated, Moves, Own, Shared, Timing, give_slots, put_tickets};
 use engine::Turn;
 use log::Log;
-use ready::{Full, Ticket};
+use queues::{Full, Ticket};
 use relay_log::log_end;
+use shared::{Clock, Front, Gated, Moves, Own, Shared, Timing, give_slots, put_tickets};
 use sizes::ServerFault;
 use std::sync::Wait;
 
@@ -181,7 +181,7 @@ fn run<F: Front, A: Gated<F, G>, G, R: Wait + Log>(
 
 /// Puts back a connection that has spent its budget, and keeps it due: it posts a note, and releases the slot. The post
 /// of a holder never answers Wake: the release does.
-#[tactic(auto, using(crate::proofs::Turns::still_at_work, common::proofs::Holding::holds_behind_post, claims::proofs::Seats::only_at_post))]
+#[tactic(auto, using(crate::proofs::Turns::still_at_work, shared::proofs::Holding::holds_behind_post, claims::proofs::Seats::only_at_post))]
 fn again<F: Front, A: Moves<F>, R: Wait>(
     rt: &R,
     acts: &mut A,

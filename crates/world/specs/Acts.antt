@@ -7,8 +7,7 @@ use Rattle.world.specs.{declared.actors.Doing.Doing, Slots.WorkerState}
 abbrev pub busy : Doing → WorkerState
 busy d = record { doing = d; hand = [] }
 
--- the call made the defined value, or was refused and left the old one; NoMemory is answered only if the call may need
--- memory
+-- the call made the defined value, or was refused and left the old one; NoMemory is answered only if the call may need memory
 abbrev pub MeetsIn : {X : Type 0} → Bool → Option X → X → X → Result (Unit {0}) Refusal → Type 0
 MeetsIn allocates defined old new (Ok x) = defined ≡ Some new
 MeetsIn allocates defined old new (Err NotAllowed) = (defined ≡ None) × (new ≡ old)

@@ -1,6 +1,5 @@
--- The headline: what holds after every run of events, clause by clause. Only `next_fails` depends on how the relay
--- achieves it: it cites the order of calls (`next_call` of the core). What the clause about due connections depends on
--- is in `Support`.
+-- The headline: what holds after every run of events, clause by clause. Only `next_fails` depends on how the relay achieves it:
+-- it cites the order of calls (`next_call` of the core). What the clause about due connections depends on is in `Support`.
 use Rattle.std.specs.{Prelude.{◌≡◌, ℕ, ◌+◌, ◌≤◌, ◌==◌, Bool, true, false, ◌&&◌, ◌||◌, if◌then◌else◌, ◌⊎◌, List, [], ◌∷◌, ◌++◌, Option, Some, None, IsSome, slice_get, option_map, option_and_then, unwrap_or}, List.list_all}
 use Rattle.token.specs.{declared.{kind.Kind.Kind, side.Side.{Side, TheVariants.{Client, Target}}, direction.Direction.{Direction, TheVariants.{Up, Down}}}, Sides.{source, destination, side_number}}
 use Rattle.flow.specs.Stream.{Stream}

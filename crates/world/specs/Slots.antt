@@ -2,8 +2,7 @@
 use Rattle.std.specs.Prelude.{ℕ, Bool, true, false, List, Option}
 use Rattle.world.specs.declared.{connection.Connection.Connection, actors.{Ticket.Ticket, Holder.{Holder, TheVariants.{Nobody, By, Free}}, Doing.Doing}}
 
--- A slot. `generation` is that of the connection that was opened in it last. Each note is the generation that it is
--- for
+-- A slot. `generation` is that of the connection that was opened in it last. Each note is the generation that it is for
 pub record SlotState : Type 0 where
   pub generation : ℕ
   pub connection : Option Connection

@@ -1,7 +1,7 @@
 //! How many lines found the queue full.
 ghost use Rattle.writer_queue.specs.Steps.{CountStep, Added, Taken};
 
-use ready::Put;
+use queues::Put;
 use std::convert::Infallible;
 use std::sync::Wait;
 use std::sync::atomic::{AtomicU64, Ordering};

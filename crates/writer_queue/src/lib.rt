@@ -15,7 +15,7 @@
 //! # Inside
 //!
 //! [`ParkedQueue`] is what the log and a recording have in common: bounded queues for a thread that writes. The thread
-//! sleeps as an end of the ready queue does (`IdleEnds` of `ready`), whose law says that nobody sleeps beside work. It
+//! sleeps as an end of the ready queue does (`IdleEnds` of `queues`), whose law says that nobody sleeps beside work. It
 //! ends only after it found the queues closed and then empty ([`Drained`]). A line that was taken cannot be dropped
 //! unwritten (`Unwritten`). One that is left out is put by being counted (`Counted`).
 #![tactic(auto)]
@@ -32,6 +32,6 @@ pub use limits::{MAX_LINE, MAX_LINES};
 pub use line::LogLine;
 pub use parked::{Drain, ParkedQueue};
 pub use queue::{LogQueue, Written};
-pub use ready::Drained;
+pub use queues::Drained;
 pub use sink::{Direct, Form, Queued};
 pub use writing::write_lines;

@@ -1,12 +1,12 @@
 //! Queues for a thread that writes, and sleeps while there is nothing to write. It is the one end that takes, of the
-//! ends of `ready`.
+//! ends of `queues`.
 ghost use Rattle.std.specs.Prelude.{◌≡◌, ◌<◌, map, true, All, ℕ, List};
 ghost use Rattle.crossbeam_queue.specs.Passes.{queue_capacity};
 ghost use Rattle.writer_queue.specs.Steps.{Added};
 
 use crate::left_out::{Count, Counted};
 use crossbeam_queue::ArrayQueue;
-use ready::{Drained, EndNumber, IdleEnds, Put, Source, Spent};
+use queues::{Drained, EndNumber, IdleEnds, Put, Source, Spent};
 use std::marker::Model;
 use std::sync::Wait;
 use std::time::Duration;

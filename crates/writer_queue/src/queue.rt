@@ -7,7 +7,7 @@ use crate::line::{LogLine, Unwritten};
 use crate::parked::ParkedQueue;
 use crate::sink::Form;
 use crossbeam_queue::ArrayQueue;
-use ready::{Drained, Spent};
+use queues::{Drained, Spent};
 use std::alloc::{AllocError, Global};
 use std::sync::Wait;
 use std::sync::atomic::{AtomicBool, AtomicU64, Ordering};

@@ -1,5 +1,4 @@
-use Rattle.std.proofs.Common.{sym, take, arith}
-use Rattle.std.proofs.lemmas.Grind.{common_steps}
+use Rattle.std.proofs.{Common.{sym, take, arith}, lemmas.Grind.common_steps}
 use Rattle.input.proofs.reading.read_on.Goals as goal
 
 pub returns-in-Ok-extend_from_slice-clause-reads : goal.returns-in-Ok-extend_from_slice-clause-reads

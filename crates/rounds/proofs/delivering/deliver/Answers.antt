@@ -1,6 +1,5 @@
 use Rattle.std.proofs.{Common.{take, arith}, lemmas.List.{length-take, take_more, Elements.filter_map-append}}
-use Rattle.rounds.specs.Acts.{connection_reported}
-use Rattle.rounds.proofs.Acts.{room_left, in_order, posted_both, holds_nothing_still, filter_le}
+use Rattle.rounds.{specs.Acts.connection_reported, proofs.Acts.{room_left, in_order, posted_both, holds_nothing_still, filter_le}}
 use Rattle.rounds.proofs.delivering.deliver.Goals as goal
 
 pub post_note-requires-clause-room : goal.post_note-requires-clause-room

@@ -1,5 +1,5 @@
 use Rattle.std.proofs.Common.{◌≡◌, ◌+◌, ◌≤◌, List}
-use Rattle.common.specs.{Hands.ticket_room, Posts.IsWorn}
+use Rattle.shared.specs.{Hands.ticket_room, Posts.IsWorn}
 use Rattle.rounds.specs.{Acts.SeatAct, Openings.{Between, Connected, TriesMade}, Rounds.OnlyAnswered}
 use Rattle.rounds.proofs.round.accept.Given as goal
 

@@ -1,6 +1,5 @@
 use Rattle.std.proofs.Common.{◌≡◌, refl, length, inl, inr, arith}
-use Rattle.rounds.proofs.{Rounds.{accept_and_took, between_still, room_same, took_none, answered, lasts, begun_not_early, ended_still, flag_ended, flag_up, kept, listens_still, unless, round_ended, round_of, waits_still}, Acts.{filter_le, room_left, few_sweep, flag_down, flag_raised}}
-use Rattle.rounds.specs.Acts.{connection_reported}
+use Rattle.rounds.{proofs.{Rounds.{accept_and_took, between_still, room_same, took_none, answered, lasts, begun_not_early, ended_still, flag_ended, flag_up, kept, listens_still, unless, round_ended, round_of, waits_still}, Acts.{filter_le, room_left, few_sweep, flag_down, flag_raised}}, specs.Acts.connection_reported}
 use Rattle.rounds.proofs.round.poller_round.Goals as goal
 
 pub returns-then-not-has_room : goal.returns-then-not-has_room

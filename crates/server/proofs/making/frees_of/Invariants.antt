@@ -1,5 +1,5 @@
 use Rattle.std.{proofs.Common.{◌≡◌, ℕ, ◌∷◌, map, replicate}, specs.List.range_with_len}
-use Rattle.ready.specs.Steps.{unused, opened}
+use Rattle.queues.specs.Steps.{unused, opened}
 use Rattle.sizes.specs.Splits.{part_of}
 use Rattle.server.proofs.making.frees_of.Given as goal
 

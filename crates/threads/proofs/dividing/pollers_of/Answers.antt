@@ -1,5 +1,4 @@
-use Rattle.std.proofs.Common.{◌≡◌, ap, arith, length}
-use Rattle.std.specs.Arc.{arc_value}
+use Rattle.std.{proofs.Common.{◌≡◌, ap, arith, length}, specs.Arc.arc_value}
 use Rattle.claims.specs.Seats.{fresh_seat}
 use Rattle.threads.{specs.Divided.IsEndOf, proofs.Divided.{all_left, all_made, all_pushed, end_of_left, left_of_left, threads_more}}
 use Rattle.threads.proofs.dividing.pollers_of.Goals as goal

@@ -1,6 +1,6 @@
 use Rattle.std.{proofs.Common.{◌≡◌, ◌+◌, ◌≤◌, ◌++◌, map, All}, specs.{Prelude.{vec_len, vec_capacity}, Arc.arc_value}}
 use Rattle.claims.specs.Seats.{fresh_seat}
-use Rattle.common.specs.Posts.{AreFresh}
+use Rattle.shared.specs.Posts.{AreFresh}
 use Rattle.threads.specs.Divided.{numbered, IsEndOf, AreLeft}
 use Rattle.threads.proofs.dividing.pollers_of.Given as goal
 

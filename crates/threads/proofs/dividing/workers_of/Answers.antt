@@ -1,5 +1,4 @@
-use Rattle.std.proofs.Common.{◌≡◌, refl, ◌∷◌, ap, length, arith}
-use Rattle.std.specs.Arc.{arc_value}
+use Rattle.std.{proofs.Common.{◌≡◌, refl, ◌∷◌, ap, length, arith}, specs.Arc.arc_value}
 use Rattle.claims.{proofs.Seats.{fresh_holds_nothing}, specs.Seats.{fresh_seat}}
 use Rattle.threads.{specs.Divided.{HasOneOfEach, ends_of}, proofs.Divided.{all_left, all_pushed, left_of_left, numbers_more, one_of_all, one_of_each}}
 use Rattle.threads.proofs.dividing.workers_of.Goals as goal

@@ -1,6 +1,6 @@
 use Rattle.std.{proofs.Common.{◌≡◌, ◌≤◌, map, All}, specs.{Prelude.{vec_len, vec_capacity}, Arc.arc_value, List.range_with_len}}
 use Rattle.claims.specs.Seats.{fresh_seat}
-use Rattle.common.specs.Posts.{AreFresh}
+use Rattle.shared.specs.Posts.{AreFresh}
 use Rattle.threads.specs.Divided.{AreLeft, HasOneOfEach, ends_of}
 use Rattle.threads.proofs.dividing.workers_of.Given as goal
 

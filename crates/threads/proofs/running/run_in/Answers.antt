@@ -1,5 +1,4 @@
-use Rattle.std.proofs.{Common.{arith, sym}, lemmas.List.{nil_from_length}}
-use Rattle.std.specs.Prelude.{option_to_list}
+use Rattle.std.{proofs.{Common.{arith, sym}, lemmas.List.nil_from_length}, specs.Prelude.option_to_list}
 use Rattle.threads.proofs.Served.{ran_to_ends}
 use Rattle.threads.proofs.running.run_in.Goals as goal
 

@@ -1,5 +1,5 @@
 use Rattle.std.specs.Prelude.{◌≡◌}
-use Rattle.common.specs.Outgoing.{outgoing}
+use Rattle.shared.specs.Outgoing.{outgoing}
 use Rattle.threads.proofs.working.give_until_empty.Given as goal
 
 -- no slot is lost and none taken, and the tickets in hand stay

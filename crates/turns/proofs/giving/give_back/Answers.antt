@@ -1,5 +1,5 @@
 use Rattle.std.proofs.Common.{arith}
-use Rattle.common.proofs.Outgoing.{put_inserts, refused_slot}
+use Rattle.shared.proofs.Outgoing.{put_inserts, refused_slot}
 use Rattle.turns.proofs.giving.give_back.Goals as goal
 
 pub returns-in-Err-clause-given : goal.returns-in-Err-clause-given

@@ -1,6 +1,6 @@
 use Rattle.std.proofs.Common.{Ok, ℕ, ◌∙◌, subst, sym}
 use Rattle.engine.specs.Turns.{IsServed}
-use Rattle.common.specs.Outgoing.{without_first}
+use Rattle.shared.specs.Outgoing.{without_first}
 use Rattle.turns.specs.Turns.{Handling, Plays, PlaysAt, TurnInOrder}
 use Rattle.turns.proofs.own_turns.own_turn.Goals as goal
 

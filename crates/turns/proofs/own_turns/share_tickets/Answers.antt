@@ -1,5 +1,5 @@
 use Rattle.std.proofs.{Common.{arith, ap, sym, ◌∙◌, refl}, lemmas.Bool.false≢true}
-use Rattle.common.specs.Hands.{HandState}
+use Rattle.shared.specs.Hands.{HandState}
 use Rattle.turns.proofs.{Turns.{OneMoved, kept_moves, passed_moves, shared_more, shared_all}, own_turns.share_tickets.Goals.{in-Some-stays, in_default-stays}}
 use Rattle.turns.proofs.own_turns.share_tickets.Goals as goal
 

@@ -1,6 +1,6 @@
 use Rattle.std.proofs.Common.{[], ◌∷◌, Ok, ap, false, refl, true}
 use Rattle.claims.{specs.declared.view.{Account.Account, Exchange.TheVariants.{Post}}, proofs.Seats.{account_after, adds_none}}
-use Rattle.common.proofs.Holding.{woke_behind_post, worn_still}
+use Rattle.shared.proofs.Holding.{woke_behind_post, worn_still}
 use Rattle.turns.proofs.Turns.{done_after, posted_quiet}
 use Rattle.turns.specs.declared.worker.Worked.TheVariants as worked
 use Rattle.turns.proofs.worker.again.Goals as goal

@@ -1,5 +1,5 @@
 use Rattle.std.proofs.Common.{false, nat_lt, refl}
-use Rattle.common.proofs.Holding.{let_go}
+use Rattle.shared.proofs.Holding.{let_go}
 use Rattle.token.specs.Names.{last_generation}
 use Rattle.turns.{specs.Turns.Handling, proofs.Turns.{gives_as}}
 use Rattle.turns.proofs.worker.end.Goals as goal

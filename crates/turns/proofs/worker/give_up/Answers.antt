@@ -1,6 +1,6 @@
 use Rattle.std.proofs.Common.{[], ◌∷◌, refl}
 use Rattle.claims.specs.declared.view.Exchange.TheVariants.{Take}
-use Rattle.common.proofs.Holding.{holds_still}
+use Rattle.shared.proofs.Holding.{holds_still}
 use Rattle.turns.proofs.Turns.{done_after, still_at_work}
 use Rattle.turns.proofs.worker.give_up.Goals as goal
 

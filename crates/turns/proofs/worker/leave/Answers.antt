@@ -1,5 +1,5 @@
 use Rattle.std.proofs.{Common.{false, refl, sym, true}, lemmas.Bool.false≢true}
-use Rattle.common.proofs.Holding.{let_go}
+use Rattle.shared.proofs.Holding.{let_go}
 use Rattle.turns.proofs.worker.leave.Goals as goal
 
 pub returns-in-Wake : goal.returns-in-Wake

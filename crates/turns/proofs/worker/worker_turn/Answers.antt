@@ -1,6 +1,5 @@
 use Rattle.std.proofs.Common.{◌∙◌, refl}
-use Rattle.turns.proofs.Turns.{answered, only_worn}
-use Rattle.turns.specs.declared.worker.Worked.TheVariants.{Ended}
+use Rattle.turns.{proofs.Turns.{answered, only_worn}, specs.declared.worker.Worked.TheVariants.Ended}
 use Rattle.turns.proofs.worker.worker_turn.Goals as goal
 
 pub returns-clause-made : goal.returns-clause-made

@@ -1,5 +1,5 @@
 use Rattle.std.proofs.Common.{sym}
-use Rattle.threads.proofs.Loops.{round_made, round_over}
+use Rattle.threads.proofs.PollerLoops.{round_made, round_over}
 use Rattle.threads.proofs.polling.PollerThread.poll.Goals as goal
 
 pub returns-clause-cut : goal.returns-clause-cut

@@ -1,5 +1,5 @@
 use Rattle.std.specs.Prelude.{ℕ}
-use Rattle.threads.specs.Loops.{Repeated, StepMade}
+use Rattle.threads.specs.PollerLoops.{Repeated, StepMade}
 use Rattle.threads.proofs.polling.PollerThread.run_rounds.Given as goal
 
 abbrev pub invariant-loop-round : goal.invariant-loop-round

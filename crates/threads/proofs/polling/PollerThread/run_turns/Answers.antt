@@ -1,7 +1,7 @@
 use Rattle.std.proofs.Common.{ap, arith, refl, subst}
 use Rattle.rounds.specs.Pollers.{PollerState}
 use Rattle.turns.specs.Shares.{TicketsShared}
-use Rattle.threads.proofs.Loops.{marked_none, one_more, ran_fewer}
+use Rattle.threads.proofs.PollerLoops.{marked_none, one_more, ran_fewer}
 use Rattle.threads.proofs.polling.PollerThread.run_turns.Goals as goal
 
 pub loop-turn-init : goal.loop-turn-init

@@ -1,4 +1,4 @@
-use Rattle.threads.specs.Loops.{SharedAndRan}
+use Rattle.threads.specs.PollerLoops.{SharedAndRan}
 use Rattle.threads.proofs.polling.PollerThread.run_turns.Given as goal
 
 -- a turn for each time round so far

@@ -1,4 +1,4 @@
-use Rattle.threads.proofs.Loops.{worker_both, worker_same, worker_then_ends}
+use Rattle.threads.proofs.WorkerLoops.{worker_both, worker_same, worker_then_ends}
 use Rattle.threads.proofs.working.Worker.run.Goals as goal
 
 pub loop-turn-init : goal.loop-turn-init

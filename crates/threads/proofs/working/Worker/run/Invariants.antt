@@ -1,5 +1,5 @@
 use Rattle.std.specs.Prelude.{[]}
-use Rattle.threads.specs.Loops.{WorkerRan}
+use Rattle.threads.specs.WorkerLoops.{WorkerRan}
 use Rattle.threads.proofs.working.Worker.run.Given as goal
 
 abbrev pub invariant-loop-turn : goal.invariant-loop-turn

@@ -1,5 +1,5 @@
 use Rattle.std.proofs.{Common.{refl}, lemmas.Result.{err_from_is_err_and}}
-use Rattle.threads.proofs.Loops.{worker_both, worker_ends, worker_kept, worker_one, worker_same, worker_then_ends}
+use Rattle.threads.proofs.WorkerLoops.{worker_both, worker_ends, worker_kept, worker_one, worker_same, worker_then_ends}
 use Rattle.threads.proofs.working.Worker.step.Goals as goal
 
 pub returns-in_err-seen-clause-cut : goal.returns-in_err-seen-clause-cut

@@ -1,5 +1,5 @@
 use Rattle.std.proofs.Common.{refl, rules}
-use Rattle.threads.proofs.Loops.{exchanged, one_ran, others_kept}
+use Rattle.threads.proofs.WorkerLoops.{exchanged, one_ran, others_kept}
 use Rattle.threads.proofs.working.Worker.turn.Goals as goal
 
 pub returns-clause-ran : goal.returns-clause-ran

@@ -1,5 +1,5 @@
 use Rattle.std.proofs.Common.{◌∙◌, refl, rules}
-use Rattle.common.proofs.Holding.{holds_still}
+use Rattle.shared.proofs.Holding.{holds_still}
 use Rattle.turns.proofs.visit.Visit.play.Goals as goal
 
 pub returns-clause-held : goal.returns-clause-held

@@ -39,9 +39,8 @@ worker_retires s k = retires s k.doing
 abbrev pub is_number : ℕ → ℕ → ℕ
 is_number s t = one (t == s)
 
--- what the rest of the machine has of a slot of one generation: its entry in the table, its tickets, those
--- that name the generation, the workers that hold it, those that closed it, and those that retired it with
--- its places in the free queue
+-- what the rest of the machine has of a slot of one generation: its entry in the table, its tickets, those that name the
+-- generation, the workers that hold it, those that closed it, and those that retired it with its places in the free queue
 pub record Facts : Type 0 where
   pub ring : ℕ
   pub slot : ℕ

@@ -1,6 +1,5 @@
--- What each event found and left, case by case: a claim about every event is proved by these cases. So is the
--- listener's: while the accept flag is down, it is armed and nobody waits, or somebody waits and its name is queued or
--- in the batch.
+-- What each event found and left, case by case: a claim about every event is proved by these cases. So is the listener's: while
+-- the accept flag is down, it is armed and nobody waits, or somebody waits and its name is queued or in the batch.
 pub mod Lists
 unfoldable pub use Lists.*
 

@@ -1,7 +1,0 @@
-use Rattle.std.proofs.Common.{take}
-use Rattle.std.specs.Prelude.{All}
-use Rattle.ready.proofs.idle.wake_all.Given as goal
-
--- the ends so far were unparked
-abbrev pub invariant-loop-parker : goal.invariant-loop-parker
-invariant-loop-parker g l = All g.U.Unpark.unparked (take l.parker-index l.parkers)

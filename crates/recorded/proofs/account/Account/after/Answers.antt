@@ -1,8 +1,0 @@
-use Rattle.std.proofs.Common.{rules}
-use Rattle.recorded.proofs.Accounts.{account_more}
-use Rattle.recorded.proofs.account.Account.after.Goals as goal
-
-pub returns-clause-told : goal.returns-clause-told
-returns-clause-told c =
-    account_more c.args.self _ c.args.act.now c.after.ensures c.after-2.ensures (search rules) (search rules) (search rules) (search rules) (search rules)
-    (search rules) (search rules)

@@ -1,6 +1,0 @@
-use Rattle.std.proofs.Common.{refl, rules}
-use Rattle.recorded.proofs.Moments.{times_more}
-use Rattle.recorded.proofs.times.Times.after.Goals as goal
-
-pub returns : goal.returns
-returns c = times_more c.args.self _ c.args.at c.args.act.now refl (search rules) (search rules) (search rules) (search rules) (search rules)
