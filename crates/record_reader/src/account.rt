@@ -195,10 +195,7 @@ fn may_send(own: Half, other: Half, sent_last: bool) -> bool
 fn is_sender(sender: Option<Side>, side: Side) -> bool
     ensures { result ≡ is_sender sender side }
 {
-    match sender {
-        Some(sender) => same(sender, side),
-        None => false,
-    }
+    matches!(sender, Some(sender) if same(sender, side))
 }
 
 pub(crate) fn same(a: Side, b: Side) -> bool

@@ -124,10 +124,7 @@ fn is_wait(did: Polling) -> bool
 fn flag_at(flags: &[bool], at: usize) -> bool
     ensures { result ≡ flag_at flags.now at }
 {
-    match flags.get(at) {
-        Some(flag) => *flag,
-        None => false,
-    }
+    matches!(flags.get(at), Some(flag) if *flag)
 }
 
 fn set(flags: &mut [bool], at: usize)

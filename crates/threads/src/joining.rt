@@ -126,8 +126,8 @@ pub(crate) struct Served {
 
 /// How a server ended: well; or for want of a thread; or by a fault that threads met, the lowest number's; or by what
 /// refused the server before it served. No thread of a refused server had begun: threads need an [`Ending`], which
-/// cannot be dropped and goes only into [`Outcome::of`], whose outcome has `served` and cannot be dropped either. Only
-/// the program can read an outcome, so whoever serves returns it.
+/// cannot be dropped. Only [`Outcome::of`] takes it, and what that makes has `served`, and cannot be dropped either.
+/// Only the program can read an outcome, so whoever serves returns it.
 pub struct Outcome {
     fault: Option<ServerFault>,
     /// How its threads ended. None if it was refused before it served.

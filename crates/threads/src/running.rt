@@ -40,21 +40,21 @@ pub struct Server<F: Front> {
     pub ghost seats: { AreFresh shared.claims parts.seats.items },
 }
 
-/// Runs a server. No clause asks for a poller, but there has to be one, and a list in `free` for each: workers alone,
-/// if `free` has ends for them, would run for ever. The calling thread is the first poller's, all others are started
-/// here, and the call returns when all have ended. A poller looks at `is_stopped` before each round, and not while it
-/// waits for reports. So whoever sets it has to wake every poller afterwards, by a waker kept from before the call: one
-/// that finds it set wakes the others only if it might have opened more itself. A poller that finds it set, or has
-/// opened all that it may, opens no more, and its front stops listening; the server ends once all connections are
-/// closed. `gate` hears that all threads were started, unless a fault is recorded by then: other threads may have run
-/// turns before.
+/// Runs a server. No clause asks for a poller or a worker, but there has to be one of each: workers alone could run for
+/// ever, and without one nobody runs the tickets that pollers put into the queue. The calling thread is the first
+/// poller's, all others are started here, and the call returns when all have ended. A poller looks at `is_stopped`
+/// before each round, and not while it waits for reports. So whoever sets it has to wake every poller afterwards, by a
+/// waker kept from before the call; to wake one is not enough, since it wakes the others only if it might have opened
+/// more itself. A poller that finds it set, or has opened all that it may, opens no more, and its front stops
+/// listening; the server ends once all connections are closed. `gate` hears that all threads were started, unless a
+/// fault is recorded by then: other threads may have run turns before.
 ///
 /// Refuses with `NoMemory`, only before any thread has started ([`Outcome`]), if memory is short, if there are fewer
 /// seats or ends of queues than threads, or if a poller's table is not as long as there are slots. Once threads run,
 /// the first fault ends all of them, and cuts what is open: `Poll` or `Worn` of a round, `Worn` of a turn, or
 /// `Threads`, of which `Poll` and `Threads` are logged. The fault of the outcome is `Threads` if a thread could not be
-/// started, or else that of the lowest thread that met one: pollers come before workers. In `ran`, `mark` is a number
-/// that stands for the one cell at which all threads look, which is set once a fault is recorded.
+/// started, or else that of the lowest thread that met one: pollers come before workers. In `ran`, `mark` names the
+/// cell at which all threads look, and which is set once a fault is recorded.
 pub fn run_threads<'a, F, G, C, R, S>(
     rt: &'a R,
     alloc: Global,
