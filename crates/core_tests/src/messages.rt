@@ -14,11 +14,11 @@ use writer_queue::LogLine;
 /// have one byte there.
 fn is_cut(alloc: Global) -> Result<bool, AllocError> {
     let mut line = LogLine::new();
-    for _ in 0..40 {
+    for _ in 0..80 {
         let _added = line.write_str("1\u{e4}4567");
     }
     let text = format!(in alloc; "{line}")?;
-    Ok(text.len() == 242 && text.ends_with("671..."))
+    Ok(text.len() == 466 && text.ends_with("671..."))
 }
 
 // refuses line_is_cut_too_early: a long line is cut before it is full

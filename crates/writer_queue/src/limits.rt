@@ -1,8 +1,8 @@
 //! The sizes of the log's queue, and how long its writer rests.
 use std::time::Duration;
 
-/// The most bytes of a line's text. What follows is cut off.
-pub const MAX_LINE: usize = 240;
+/// The most bytes of a line's text. What follows is cut off. The line of the statistics has at most 459.
+pub const MAX_LINE: usize = 464;
 
 /// The most lines that wait to be written.
 pub const MAX_LINES: usize = 4_096;
