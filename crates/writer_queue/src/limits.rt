@@ -1,7 +1,7 @@
 //! The sizes of the log's queue, and how long its writer rests.
 use std::time::Duration;
 
-/// The most bytes of a line's text. What follows is cut off. The line of the statistics has at most 459.
+/// The most bytes of a line's text. What follows is cut off. The line of the statistics has at most 463.
 pub const MAX_LINE: usize = 464;
 
 /// The most lines that wait to be written.
